@@ -15,6 +15,7 @@ abbrev pub CutsAt : List ℕ → ℕ → List Token → ℕ → Type 0
 CutsAt text p [] q = p ≡ q
 CutsAt text p (t ∷ ts) q = (p ≡ t.start) × IsCut text t × Cuts text t.end ts q
 
+-- a cut behind a gap is a cut before it
 pub behind_gap : (text : List ℕ) (p : ℕ) (ts : List Token) (q : ℕ) → CutsAt text (p + gap (drop p text)) ts q → Cuts text p ts q
 behind_gap text p [] q h = h
 behind_gap text p (t ∷ ts) q h = h
@@ -28,6 +29,7 @@ longest_same (c ∷ cs) k l n m a b =
     let y = at_front c cs l m b.token in
     (cc (x.3, y.3), omega (arith, a.longest l m b.token, b.longest k n a.token))
 
+-- an empty text has no token
 pub no_token_at_end : (bs : List ℕ) → bs ≡ [] → NoToken bs
 no_token_at_end [] e = go
   where
@@ -36,6 +38,7 @@ no_token_at_end [] e = go
     go k (suc n) t = absurd (omega (arith, t.0))
 no_token_at_end (b ∷ bs) e = absurd (cc)
 
+-- tokens that agree in kind, start and end are one
 same_token : (t u : Token) → t.kind ≡ u.kind → t.start ≡ u.start → t.end ≡ u.end → t ≡ u
 same_token t u a b c = λ i. record { kind = a i; start = b i; end = c i }
 
@@ -56,6 +59,7 @@ cut_once text (t ∷ ts) (u ∷ us) p q r a b f g =
     let one = same_token t u same.0 at ends in
     (cc (one, rest.0), rest.1)
 
+-- the longest token is not empty
 pub some_longest : (bs : List ℕ) (k : Kind) (n : ℕ) → IsLongest bs k n → 0 < n
 some_longest bs k zero l = absurd (no_empty k l.token.1)
 some_longest bs k (suc n) l = omega arith
@@ -68,6 +72,7 @@ pub record Whole (text : List ℕ) (p : ℕ) : Type 0 where
   pub within : stop ≤ length text
   pub none : NoToken (drop stop text)
 
+-- a gap and a token, and a cut of what is behind them
 cut_next : (text : List ℕ) (p : ℕ) → p ≤ length text → ((r : ℕ) → p < r → r ≤ length text → Whole text r) → Whole text p
 cut_next text p h more = go (front (drop at text)) (front_is (drop at text))
   where
@@ -107,22 +112,28 @@ one_more text done t at len next before starts ends l is ts q cut =
     let whole : CutsAt text at (t ∷ ts) q = (sym starts, record { spans = (len, ends ∙ ap (λ (x : ℕ). x + len) (sym starts), subst (λ (x : ℕ). IsLongest (drop x text) t.kind len) (sym starts) l) }, behind) in
     subst (λ (xs : List Token). Cuts text 0 xs q) (sym (append_assoc done (t ∷ []) ts)) (before (t ∷ ts) q whole)
 
+-- `front` of a slice up to the end is the longest token at that place
 pub found_at : (text : List ℕ) (at : ℕ) (o x : Option (Kind × ℕ)) → o ≡ front (take (length text - at) (drop at text)) → o ≡ x → IsFront (drop at text) x
 found_at text at o x value is =
     subst (IsFront (drop at text)) (sym (ap front (rest_is text at)) ∙ sym value ∙ is) (front_is (drop at text))
 
+-- no token is at the end of a text
 end_is : (text : List ℕ) → NoToken (drop (length text) text)
 end_is text = no_token_at_end _ (drop-length text)
 
+-- a text has one list of tokens
 pub tokens_unique : (text : List ℕ) (ts us : List Token) → Tokens text ts → Tokens text us → ts ≡ us
 tokens_unique text ts us a b = (cut_once text ts us 0 (length text) (length text) a b (end_is text) (end_is text)).0
 
+-- a text has one first bad byte
 pub bad_unique : (text : List ℕ) (p q : ℕ) → Bad text p → Bad text q → p ≡ q
 bad_unique text p q a b = (cut_once text a.0 b.0 0 p q a.1 b.1 a.3 b.3).1
 
+-- a text with tokens has no bad byte
 pub never_both : (text : List ℕ) (ts : List Token) (p : ℕ) → Tokens text ts → Bad text p → ⊥
 never_both text ts p a b = let e = (cut_once text ts b.0 0 (length text) p a b.1 (end_is text) b.3).1 in omega (arith, e, b.2)
 
+-- a text has tokens or a bad byte
 pub tokens_or_bad : (text : List ℕ) → ((ts : List Token) × Tokens text ts) ⊎ ((p : ℕ) × Bad text p)
 tokens_or_bad text =
     let w = cut_all text (length text) 0 (omega arith) (omega arith) in

@@ -12,25 +12,32 @@ use Rattle.qasm_lex.specs.Tokens.{BeginsWith, IsLongest, NoToken}
 use Rattle.qasm_lex.specs.Front.{kind_at, fraction_len, number_rest, closed_len, rest_len, front}
 use Rattle.qasm_lex.proofs.Starts.{is_start, start_of, kind_of_start, mark_is, starts}
 
+-- one more is the successor
 suc_is : (n : ℕ) → 1 + n ≡ suc n
 suc_is n = omega arith
 
+-- a front that is not empty has a length that is not 0
 some_taken : (n : ℕ) (bs : List ℕ) → 0 < length (take n bs) → 0 < n
 some_taken n bs h = omega (arith, length-take n bs)
 
+-- a front of a length that is not 0 is not empty
 taken_some : (n : ℕ) (bs : List ℕ) → 0 < n → n ≤ length bs → 0 < length (take n bs)
 taken_some n bs h w = omega (arith, length-take n bs)
 
+-- a byte that passes makes the run one longer
 run_more : (p : ℕ → Bool) (b : ℕ) (bs : List ℕ) → p b ≡ true → prefix_len p (b ∷ bs) ≡ suc (prefix_len p bs)
 run_more p b bs e = ap (λ (x : Bool). cond x (1 + prefix_len p bs) 0) e ∙ suc_is _
 
+-- a byte that fails ends the run
 run_stop : (p : ℕ → Bool) (b : ℕ) (bs : List ℕ) → p b ≡ false → prefix_len p (b ∷ bs) ≡ 0
 run_stop p b bs e = ap (λ (x : Bool). cond x (1 + prefix_len p bs) 0) e
 
+-- a disjunction holds by its right part
 or_right : (x y : Bool) → y ≡ true → (x || y) ≡ true
 or_right true y e = refl
 or_right false y e = e
 
+-- a disjunction holds by its left part
 or_left : (x y : Bool) → x ≡ true → (x || y) ≡ true
 or_left x y e = ap (λ (t : Bool). t || y) e
 
@@ -44,6 +51,7 @@ run_within p (b ∷ bs) (suc n) h e =
     let here = run_more p b bs parts.0 in
     omega arith
 
+-- the run has passing bytes alone
 run_is : (p : ℕ → Bool) (bs : List ℕ) → list_all p (take (prefix_len p bs) bs) ≡ true
 run_is p [] = refl
 run_is p (b ∷ bs) =
@@ -59,41 +67,51 @@ pub record Rests (form : List ℕ → Bool) (bs : List ℕ) (m : ℕ) : Type 0 w
   pub has : form (take m bs) ≡ true
   pub longest : (n : ℕ) → n ≤ length bs → form (take n bs) ≡ true → n ≤ m
 
+-- no front has the form
 abbrev pub NoRest : (List ℕ → Bool) → List ℕ → Type 0
 NoRest form bs = (n : ℕ) → n ≤ length bs → form (take n bs) ≡ true → ⊥
 
+-- the run is the longest front of passing bytes
 run_rests : (p : ℕ → Bool) (bs : List ℕ) → Rests (list_all p) bs (prefix_len p bs)
 run_rests p bs = record { within = prefix_len-le-length p bs; has = run_is p bs; longest = run_within p bs }
 
+-- digits are a run of digits that is not empty
 digits_all : (bs : List ℕ) → are_digits bs ≡ true → (list_all is_digit bs ≡ true) × (0 < length bs)
 unfolding are_digits
 digits_all [] e = absurd (false≢true e)
 digits_all (b ∷ bs) e = (e, omega arith)
 
+-- a run of digits that is not empty is digits
 digits_from : (bs : List ℕ) → list_all is_digit bs ≡ true → 0 < length bs → are_digits bs ≡ true
 unfolding are_digits
 digits_from [] e h = absurd (omega arith)
 digits_from (b ∷ bs) e h = e
 
+-- a point is no digit
 point_no_digit : (b : ℕ) → (b == 46) ≡ true → is_digit b ≡ false
 point_no_digit b e = grind (arith, nat_tests)
 
+-- a digit makes the rest of a number one longer
 rest_digit : (b : ℕ) (bs : List ℕ) → is_digit b ≡ true → number_rest (b ∷ bs) ≡ suc (number_rest bs)
 unfolding number_rest
 rest_digit b bs e = ap (λ (x : Bool). cond x (1 + number_rest bs) (fraction_len (b ∷ bs))) e ∙ suc_is _
 
+-- behind the digits the rest of a number is its fraction
 rest_other : (b : ℕ) (bs : List ℕ) → is_digit b ≡ false → number_rest (b ∷ bs) ≡ fraction_len (b ∷ bs)
 unfolding number_rest
 rest_other b bs e = ap (λ (x : Bool). cond x (1 + number_rest bs) (fraction_len (b ∷ bs))) e
 
+-- a point with digits behind it is a fraction
 fraction_is : (b : ℕ) (bs : List ℕ) → (b == 46) ≡ true → 0 < prefix_len is_digit bs → fraction_len (b ∷ bs) ≡ suc (prefix_len is_digit bs)
 unfolding fraction_len
 fraction_is b bs e h = rw (e, lt-ltb _ _ h) (suc_is _)
 
+-- no point, or one without digits, is no fraction
 fraction_none : (b : ℕ) (bs : List ℕ) → ((b == 46) && ltb 0 (prefix_len is_digit bs)) ≡ false → fraction_len (b ∷ bs) ≡ 0
 unfolding fraction_len
 fraction_none b bs e = ap (λ (x : Bool). cond x (1 + prefix_len is_digit bs) 0) e
 
+-- the rest of a number is no longer than `number_rest`
 number_within : (bs : List ℕ) (n : ℕ) → n ≤ length bs → ends_number (take n bs) ≡ true → n ≤ number_rest bs
 unfolding ends_number
 number_within bs zero h e = omega arith
@@ -112,6 +130,7 @@ number_within (b ∷ bs) (suc n) h e =
     omega arith)
     (or_cases (is_digit b && ends_number (take n bs)) ((b == 46) && are_digits (take n bs)) e)
 
+-- `number_rest` bytes are the rest of a number
 number_has : (bs : List ℕ) → (number_rest bs ≤ length bs) × (ends_number (take (number_rest bs) bs) ≡ true)
 unfolding ends_number number_rest
 number_has [] = (omega arith, refl)
@@ -130,9 +149,11 @@ number_has (b ∷ bs) =
     (cases_Bool ((b == 46) && ltb 0 (prefix_len is_digit bs)))))
     (cases_Bool (is_digit b))
 
+-- a `"` is not plain
 quote_not_plain : (b : ℕ) → (b == 34) ≡ true → is_plain b ≡ false
 quote_not_plain b e = grind (arith, nat_tests)
 
+-- the byte 34 passes the test for `"`
 eqb_34 : (b : ℕ) → b ≡ 34 → (b == 34) ≡ true
 eqb_34 b e = rw e refl
 
@@ -149,6 +170,7 @@ quoted_within (b ∷ c ∷ bs) (suc (suc n)) h e =
     let more = quoted_within (c ∷ bs) (suc n) (omega arith) parts.1 in
     rw (run_more is_plain b (c ∷ bs) parts.0) (ap (λ (x : ℕ). suc x) more.0, more.1)
 
+-- plain bytes and a `"` are a closed front
 quoted_has : (bs : List ℕ) → get_or bs (prefix_len is_plain bs) 0 ≡ 34
     → (suc (prefix_len is_plain bs) ≤ length bs) × (ends_quoted (take (suc (prefix_len is_plain bs)) bs) ≡ true)
 unfolding ends_quoted
@@ -170,6 +192,7 @@ quoted_has (b ∷ c ∷ bs) e =
     rw (run_stop is_plain b (c ∷ bs) p) (omega arith, eqb_34 b (sym same ∙ e)))
     (cases_Bool (is_plain b))
 
+-- `closed_len` is the longest closed front, if there is one
 closed_rests : (bs : List ℕ) → MatchOption (closed_len bs) (NoRest ends_quoted bs) (λ m. Rests ends_quoted bs m)
 unfolding closed_len
 closed_rests bs = go (get_or bs (prefix_len is_plain bs) 0 == 34) refl
@@ -181,6 +204,7 @@ closed_rests bs = go (get_or bs (prefix_len is_plain bs) 0 == 34) refl
         rw more (record { within = has.0; has = has.1; longest = λ n h f. let w = quoted_within bs n h f in omega (arith, w.0) })
     go false e = λ n h f. let w = quoted_within bs n h f in absurd (eqb-false _ _ e w.1)
 
+-- behind a mark nothing belongs to it
 mark_rests : (marks : List ℕ) (b : ℕ) (bs : List ℕ) → list_any (λ m. b == m) marks ≡ true → Rests (λ rest. is_mark marks (b ∷ rest)) bs 0
 unfolding is_mark
 mark_rests marks b bs e = record {
@@ -189,6 +213,7 @@ mark_rests marks b bs e = record {
   longest = λ n h f. let none = (mark_is marks b (take n bs) f).1 in let l : length (take n bs) ≡ 0 = ap length none in omega (arith, length-take n bs, l);
 }
 
+-- behind its first byte a name is the run of name bytes
 name_rests : (b : ℕ) (bs : List ℕ) → is_name_start b ≡ true → Rests (λ rest. is_name (b ∷ rest)) bs (prefix_len is_name_byte bs)
 unfolding is_name
 name_rests b bs e = record {
@@ -197,6 +222,7 @@ name_rests b bs e = record {
   longest = λ n h f. run_within is_name_byte bs n h (and_parts (is_name_start b) _ f).1;
 }
 
+-- behind its first digit a number is `number_rest` bytes
 number_rests : (b : ℕ) (bs : List ℕ) → is_digit b ≡ true → Rests (λ rest. is_number (b ∷ rest)) bs (number_rest bs)
 unfolding is_number
 number_rests b bs e = let has = number_has bs in record {
@@ -205,6 +231,7 @@ number_rests b bs e = let has = number_has bs in record {
   longest = λ n h f. number_within bs n h (and_parts (is_digit b) _ f).1;
 }
 
+-- behind its first `"` a quoted text is `closed_len` bytes, if it is closed
 quoted_rests : (b : ℕ) (bs : List ℕ) → (b == 34) ≡ true → MatchOption (closed_len bs) (NoRest (λ rest. is_quoted (b ∷ rest)) bs) (λ m. Rests (λ rest. is_quoted (b ∷ rest)) bs m)
 unfolding is_quoted
 quoted_rests b bs e = go (closed_len bs) (closed_rests bs)
@@ -252,10 +279,12 @@ pub at_front : (b : ℕ) (bs : List ℕ) (k : Kind) (n : ℕ) → BeginsWith (b 
 at_front b bs k zero t = absurd (no_empty k t.1)
 at_front b bs k (suc m) t = (m, refl, omega (arith, t.0), kind_of_start b k (starts k b (take m bs) t.1), t.1)
 
+-- what is at the front: no token, or the longest of this kind and length
 abbrev pub IsFront : List ℕ → Option (Kind × ℕ) → Type 0
 IsFront bs None = NoToken bs
 IsFront bs (Some f) = IsLongest bs f.0 f.1
 
+-- `front` gives the longest token at the front, or none
 pub front_is : (bs : List ℕ) → IsFront bs (front bs)
 unfolding front
 front_is [] = λ k n t. none_at k n t

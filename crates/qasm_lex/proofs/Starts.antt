@@ -24,21 +24,21 @@ is_start LeftParen b = list_any (λ m. b == m) (codes "(")
 is_start RightParen b = list_any (λ m. b == m) (codes ")")
 is_start Other b = list_any (λ m. b == m) (codes "+-*/^>=.")
 
+-- two kinds that are found are one
 some_same : (k l : Kind) → Some k ≡ Some l → k ≡ l
 some_same k l e = cc
 
+-- one test of `kind_at`: what holds of the kind that it gives and of the rest holds of the whole
 step : (b : ℕ) (t : Bool) (kind k : Kind) (rest : Option Kind) → (t ≡ true → is_start kind b ≡ true) → (rest ≡ Some k → is_start k b ≡ true)
     → cond t (Some kind) rest ≡ Some k → is_start k b ≡ true
 step b true kind k rest here there e = subst (λ (x : Kind). is_start x b ≡ true) (some_same kind k e) (here refl)
 step b false kind k rest here there e = there e
 
+-- a test is a disjunction of itself alone
 alone : (t : Bool) → t ≡ true → (t || false) ≡ true
 alone t e = ap (λ (x : Bool). x || false) e
 
-alone_back : (t : Bool) → (t || false) ≡ true → t ≡ true
-alone_back true e = refl
-alone_back false e = e
-
+-- a byte begins the kind that `kind_at` gives
 pub start_of : (b : ℕ) (k : Kind) → kind_at b ≡ Some k → is_start k b ≡ true
 unfolding kind_at
 start_of b k e =
@@ -55,9 +55,11 @@ start_of b k e =
     step b _ RightParen k _ (alone _) (
     step b _ Other k _ (λ h. h) (λ (h : None ≡ Some k). absurd (cc))))))))))))) e
 
+-- a byte equal to a known one has its kind
 at_byte : (m b : ℕ) (k : Kind) → kind_at m ≡ Some k → (b == m) ≡ true → kind_at b ≡ Some k
 at_byte m b k known e = subst (λ (x : ℕ). kind_at x ≡ Some k) (sym (eqb-true b m e)) known
 
+-- a digit begins no name
 digit_no_name : (b : ℕ) → is_digit b ≡ true → is_name_start b ≡ false
 digit_no_name b e = grind (arith, nat_tests)
 
@@ -66,10 +68,12 @@ abbrev AllBegin : Kind → List ℕ → Type 0
 AllBegin k [] = Unit {0}
 AllBegin k (m ∷ ms) = (kind_at m ≡ Some k) × AllBegin k ms
 
+-- a byte that is one of the marks has their kind
 at_mark : (b : ℕ) (k : Kind) (marks : List ℕ) → AllBegin k marks → list_any (λ m. b == m) marks ≡ true → kind_at b ≡ Some k
 at_mark b k [] known e = absurd (false≢true e)
 at_mark b k (m ∷ ms) known e = ⊎_elim (λ h. at_byte m b k known.0 h) (λ h. at_mark b k ms known.1 h) (or_cases (b == m) (list_any (λ x. b == x) ms) e)
 
+-- `kind_at` gives a kind that the byte begins
 pub kind_of_start : (b : ℕ) (k : Kind) → is_start k b ≡ true → kind_at b ≡ Some k
 unfolding kind_at
 kind_of_start b Ident e = rw e refl
@@ -91,6 +95,7 @@ unfolding is_mark
 mark_is marks b [] e = (e, refl)
 mark_is marks b (c ∷ bs) e = absurd (false≢true e)
 
+-- the first byte of a token begins its kind
 pub starts : (k : Kind) (b : ℕ) (bs : List ℕ) → is_token k (b ∷ bs) ≡ true → is_start k b ≡ true
 unfolding is_token is_name is_number is_quoted
 starts Ident b bs e = (and_parts _ _ e).0
