@@ -4,3 +4,6 @@ pub mod Splits
 pub mod Lookups
 pub mod Placing
 pub mod Registers
+pub mod Cut
+pub mod Takeable
+pub mod Outcomes

@@ -109,7 +109,8 @@ fn first_place(text: &[u8], tokens: &[Token]) -> usize
 // The circuit behind all statements, if there is a qubit.
 fn circuit_of(alloc: Global, scan: Scan) -> Option<Circuit>
     ensures none { IfNone result ((state scan.entry).qubits ≡ 0) }
-    ensures some { IfSome result (λ c. (c.qubits ≡ (state scan.entry).qubits) × (c.gates ≡ (state scan.entry).gates)) }
+    ensures some { IfSome result (λ c. 0 < c.qubits) }
+    ensures same { IfSome result (λ c. (c.qubits ≡ (state scan.entry).qubits) × (c.gates ≡ (state scan.entry).gates)) }
 {
     let Scan {
         registers: _,
@@ -143,5 +144,8 @@ pub fn read(alloc: Global, text: &[u8]) -> Result<Circuit, ReadFault>
         return Err(refused(Refusal::Header, first_place(text, &tokens)));
     };
     let scan = scan_all(alloc, text, statements)?;
-    circuit_of(alloc, scan).ok_or(refused(Refusal::Qubits, text.len()))
+    let Some(circuit) = circuit_of(alloc, scan) else {
+        return Err(refused(Refusal::Qubits, text.len()));
+    };
+    Ok(circuit)
 }
