@@ -49,11 +49,7 @@ fn with_creg<'a>(scan: Scan<'a>, name: &'a [u8]) -> Result<Scan<'a>, AllocError>
 }
 
 // One register of qubits more.
-fn with_qreg<'a>(
-    scan: Scan<'a>,
-    name: &'a [u8],
-    size: &[u8],
-) -> Result<Scan<'a>, AllocError>
+fn with_qreg<'a>(scan: Scan<'a>, name: &'a [u8], size: &[u8]) -> Result<Scan<'a>, AllocError>
     requires first { (state scan).began ≡ false }
     requires some { 0 < value size.now }
     requires few { scan.qubits + value size.now ≤ most_qubits }

@@ -9,7 +9,9 @@ use std::collections::BTreeSet;
 use tc_circuit::Circuit;
 
 pub(crate) const MOST_QUBITS: u8 = 3;
+
 pub(crate) const MOST_T_GATES: usize = 44;
+
 pub(crate) const MOST_STATEMENTS: usize = 4096;
 
 // A register of qubits: its first qubit, and how many it has.

@@ -49,12 +49,7 @@ const CIRCUITS: [(usize, &[u8], u8, &[Gate]); 49] = [
     (1, b"id q[0];", 1, &[]),
     (1, b"x q[0];", 1, &[H(0), S(0), S(0), H(0)]),
     (2, b"z q[1];", 2, &[S(1), S(1)]),
-    (
-        1,
-        b"y q[0];",
-        1,
-        &[S(0), S(0), H(0), S(0), S(0), H(0)],
-    ),
+    (1, b"y q[0];", 1, &[S(0), S(0), H(0), S(0), S(0), H(0)]),
     (2, b"cx q[1],q[0];", 2, &[Cx(1, 0)]),
     (2, b"cz q[0],q[1];", 2, &[H(1), Cx(0, 1), H(1)]),
     (3, b"swap q[2],q[0];", 3, &[Cx(2, 0), Cx(0, 2), Cx(2, 0)]),
@@ -112,12 +107,7 @@ const CIRCUITS: [(usize, &[u8], u8, &[Gate]); 49] = [
         3,
         &[T(1), T(2), H(0), Tdg(1)],
     ),
-    (
-        0,
-        b"OPENQASM 2.0;\nqreg a[2];\nqreg b[1];\n",
-        3,
-        &[],
-    ),
+    (0, b"OPENQASM 2.0;\nqreg a[2];\nqreg b[1];\n", 3, &[]),
     (
         0,
         b"OPENQASM 2.0; qreg a[1]; creg c[7]; qreg b[2]; cx b[1],a[0];",
@@ -161,12 +151,7 @@ const CIRCUITS: [(usize, &[u8], u8, &[Gate]); 49] = [
     ),
     (2, b"barrier q[0],q[0],q,q[1],q;", 2, &[]),
     (1, b"barrier q; qreg r[1]; t r[0];", 2, &[T(1)]),
-    (
-        0,
-        b"OPENQASM 2.0; qreg _Q9[1]; s _Q9;",
-        1,
-        &[S(0)],
-    ),
+    (0, b"OPENQASM 2.0; qreg _Q9[1]; s _Q9;", 1, &[S(0)]),
     (
         0,
         b"OPENQASM 2.0; qreg sin[1]; creg cos[1]; creg tan[1]; creg exp[1]; creg ln[1]; creg sqrt[1]; s sin;",
@@ -184,12 +169,7 @@ const CIRCUITS: [(usize, &[u8], u8, &[Gate]); 49] = [
     (1, b"// \"\x00", 1, &[]),
     (1, b"// no line feed", 1, &[]),
     (1, b"h//\x80\nq\t[\r0 ]\n;//", 1, &[H(0)]),
-    (
-        0,
-        b"// first\nOPENQASM // 3\n2.0 ; qreg q [ 1 ] ;",
-        1,
-        &[],
-    ),
+    (0, b"// first\nOPENQASM // 3\n2.0 ; qreg q [ 1 ] ;", 1, &[]),
     (0, b"OPENQASM 2.0;qreg q[1];h q;", 1, &[H(0)]),
     // A controlled s, and a gate with its qubits in each place.
     (
@@ -342,7 +322,11 @@ const REFUSALS: [(usize, &[u8], u8, usize); 92] = [
 fn texts_are_refused(rt: HostRuntime) {
     for (head, lines, number, place) in REFUSALS {
         let text = text(rt.alloc(), head, lines).expect(&rt, "memory");
-        assert_eq!(rt; refusal(rt.alloc(), &text), Some((number, place)), "at {lines:?}");
+        assert_eq!(rt;
+            refusal(rt.alloc(), &text),
+            Some((number, place)),
+            "at {lines:?}"
+        );
     }
 }
 
@@ -364,7 +348,11 @@ fn long_texts(rt: HostRuntime) {
     for (line, times, want) in LONG {
         let text = repeated(rt.alloc(), line, times).expect(&rt, "memory");
         assert_eq!(rt; refusal(rt.alloc(), &text), want, "at {line:?}");
-        assert_eq!(rt; read(rt.alloc(), &text).is_ok(), want.is_none(), "at {line:?}");
+        assert_eq!(rt;
+            read(rt.alloc(), &text).is_ok(),
+            want.is_none(),
+            "at {line:?}"
+        );
     }
 }
 
@@ -376,7 +364,11 @@ fn a_statement_too_many(rt: HostRuntime) {
     for (line, number) in LATE {
         let mut text = repeated(rt.alloc(), b"h q[0];\n", 4095).expect(&rt, "memory");
         text.extend_from_slice(line).expect(&rt, "memory");
-        assert_eq!(rt; refusal(rt.alloc(), &text), Some((number, 32785)), "at {line:?}");
+        assert_eq!(rt;
+            refusal(rt.alloc(), &text),
+            Some((number, 32785)),
+            "at {line:?}"
+        );
     }
 }
 
@@ -391,23 +383,23 @@ fn blanks_and_semis(rt: HostRuntime) {
     assert_eq!(rt; refusal(rt.alloc(), &semis), Some((3, 13)));
 }
 
-// The last length of a front of the text, and what the fronts up to it read as: how many gates, or a refusal.
+// A length, and what the fronts of the text below it, down to the length before, read as: how many gates, or a refusal.
 const FRONTS: [(usize, Result<usize, (u8, usize)>); 15] = [
-    (12, Err((1, 0))),
-    (13, Err((8, 13))),
-    (14, Err((8, 14))),
-    (23, Err((3, 14))),
-    (25, Ok(0)),
-    (31, Err((3, 25))),
-    (33, Ok(1)),
-    (39, Err((3, 33))),
-    (41, Ok(2)),
-    (53, Err((3, 41))),
-    (55, Ok(3)),
-    (63, Err((3, 55))),
-    (65, Ok(4)),
-    (77, Err((3, 65))),
-    (79, Ok(5)),
+    (13, Err((1, 0))),
+    (14, Err((8, 13))),
+    (15, Err((8, 14))),
+    (24, Err((3, 14))),
+    (26, Ok(0)),
+    (32, Err((3, 25))),
+    (34, Ok(1)),
+    (40, Err((3, 33))),
+    (42, Ok(2)),
+    (54, Err((3, 41))),
+    (56, Ok(3)),
+    (64, Err((3, 55))),
+    (66, Ok(4)),
+    (78, Err((3, 65))),
+    (80, Ok(5)),
 ];
 
 #[test]
@@ -415,9 +407,9 @@ fn fronts_of_a_text(rt: HostRuntime) {
     let whole: &[u8] =
         b"OPENQASM 2.0;\nqreg q[2];\nt q[0];\nt q[1];\ncx q[0],q[1];\ntdg q[1];\ncx q[0],q[1];\n";
     let mut front = Vec::new(rt.alloc());
-    for (last, want) in FRONTS {
-        for byte in whole.iter().take(last + 1).skip(front.len()) {
-            assert_eq!(rt; outcome(rt.alloc(), &front), want, "at {last}");
+    for (end, want) in FRONTS {
+        for byte in whole.iter().take(end).skip(front.len()) {
+            assert_eq!(rt; outcome(rt.alloc(), &front), want, "below {end}");
             front.push(*byte).expect(&rt, "memory");
         }
     }
