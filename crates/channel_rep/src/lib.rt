@@ -1,0 +1,7 @@
+//! Channels.
+#![tactic(auto)]
+
+mod gate;
+mod rows;
+
+pub use gate::ChannelGate;
