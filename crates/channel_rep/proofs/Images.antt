@@ -93,6 +93,13 @@ crossed_sign_is n control target code c t few lc lt d l ec et =
     (λ i. crossed_sign (ec i) (et i) == 1)
     ∙ beq_is _ _ (and_right (eqb (crossed_code control target code (letter_of control code) (letter_of target code)) (cx_image n control target code).code) _ (crossed n control target code few lc lt d l))
 
+-- a gate of n qubits is one of three
+pub fits_three : (n : ℕ) → n ≤ 3 → (g : ChannelGate) → Fits n g → Fits 3 g
+fits_three n few (H q) fits = omega (arith, fits)
+fits_three n few (S q) fits = omega (arith, fits)
+fits_three n few (Sdg q) fits = omega (arith, fits)
+fits_three n few (Cx control target) fits = (omega (arith, fits.0), omega (arith, fits.1), fits.2)
+
 -- ---- every gate moves the codes in pairs
 abbrev all_gates : ℕ → (ChannelGate → Bool) → Bool
 all_gates n f =
@@ -133,3 +140,6 @@ image-lt n some few g fits code l = ltb→lt _ _ (and_left _ _ (paired n some fe
 -- the image's image is the code itself, up to sign
 pub image-image : (n : ℕ) → 0 < n → n ≤ 3 → (g : ChannelGate) → Fits n g → (code : ℕ) → code < 4 ^ n → (image n g (image n g code).code).code ≡ code
 image-image n some few g fits code l = eqb→eq _ _ (and_right (ltb (image n g code).code (4 ^ n)) _ (paired n some few g fits code l))
+
+pub image_below : (n : ℕ) → 0 < n → n ≤ 3 → (g : ChannelGate) → Fits n g → (code partner : ℕ) → code < 4 ^ n → partner ≡ (image n g code).code → partner < 4 ^ n
+image_below n some few g fits code partner l e = subst (λ x. x < 4 ^ n) (sym e) (image-lt n some few g fits code l)

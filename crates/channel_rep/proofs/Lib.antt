@@ -1,3 +1,6 @@
 pub mod Places
 pub mod Images
 pub mod Signs
+pub mod Rules
+pub mod Sweeps
+pub mod Built

@@ -5,3 +5,7 @@ mod gate;
 mod rows;
 
 pub use gate::ChannelGate;
+mod steps;
+mod channel;
+
+pub use channel::Channel;

@@ -1,0 +1,100 @@
+// The channel of a unitary, as a table over the Pauli operators.
+ghost use Rattle.std.specs.Prelude.{◌≡◌, ◌≢◌, ℕ, ◌+◌, ◌*◌, ◌^◌, ◌<◌, ◌≤◌, ◌↔◌, List, [], ◌∷◌, ◌++◌, length, true, false, IsTrue, IfOk};
+ghost use Rattle.ring_laws.specs.Matrix.{product, identity, Agree};
+ghost use Rattle.tc_ring.specs.Root2.{surd_of};
+ghost use Rattle.tc_ring.specs.Surds.{surds, SurdWithin, one_surd};
+ghost use Rattle.channel_rep.specs.Cells.{entries, cell_of};
+ghost use Rattle.channel_rep.specs.Gates.{Fits};
+ghost use Rattle.channel_rep.specs.Tables.{Step, gate, rotation, inverse_rotation, gate_table, rotation_table, signed, SameTable, IsBuiltOf};
+
+use crate::ChannelGate;
+use crate::steps::{codes, move_rows, rotate_rows};
+use pauli_basis::Pauli;
+use std::alloc::{AllocError, Global};
+use std::marker::Model;
+use tc_ring::Root2;
+
+/// The cell of the identity at a row and a column.
+fn identity_cell(row: usize, column: usize) -> Root2
+    ensures { surd_of result ≡ identity surds row column }
+{
+    if row == column {
+        Root2 { a: 1, b: 0 }
+    } else {
+        Root2 { a: 0, b: 0 }
+    }
+}
+
+/// The cells of the identity, row by row.
+fn identity_cells(alloc: Global, n: u8) -> Result<Vec<Root2>, AllocError>
+    requires few { n ≤ 3 }
+    ensures whole { IfOk result (λ cells. length cells.items ≡ 4 ^ n * 4 ^ n) }
+    ensures identity { IfOk result (λ cells. Agree surds (4 ^ n) (entries (4 ^ n) cells.items) (identity surds)) }
+{
+    let size = codes(n);
+    let mut cells = Vec::with_capacity(alloc, size * size)?;
+    for place in 0..size * size {
+        cells.push(identity_cell(place / size, place % size))?;
+    }
+    Ok(cells)
+}
+
+/// The channel of a unitary U on one to three qubits: a table of 4^n rows and columns whose entry at row P and column Q
+/// is tr(P·U·Q·U†)/2^n, rows and columns being Pauli codes.
+///
+/// It stands for its cells divided by √2^k, one exponent k for all of them. Both numbers of each cell are at most
+/// 2^grown in absolute value, where `grown` counts the rotations since the identity and is at most 62.
+#[derive(Drop)]
+pub struct Channel {
+    n: u8,
+    k: u32,
+    grown: u32,
+    cells: Vec<Root2>,
+}
+
+impl Model for Channel {
+    ghost use Rattle.channel_rep.specs.Cells.{ChannelGrid, IsChannelGrid};
+
+    ghost Value = { ChannelGrid };
+
+    ghost view = { λ m. record { qubits = m.n; exponent = m.k; grown = m.grown; cells = m.cells.items } };
+
+    ghost invariant = { λ m. IsChannelGrid (record { qubits = m.n; exponent = m.k; grown = m.grown; cells = m.cells.items }) };
+}
+
+impl Channel {
+    ghost use Rattle.channel_rep.specs.Cells.{table_of, scaled, IsReduced, IsSignedPermutation};
+
+    /// The identity on n qubits, with exponent 0.
+    pub fn identity(alloc: Global, n: u8) -> Result<Channel, AllocError>
+        requires some { 0 < n }
+        requires few { n ≤ 3 }
+        ensures qubits { IfOk result (λ m. m.qubits ≡ n) }
+        ensures exponent { IfOk result (λ m. m.exponent ≡ 0) }
+        ensures grown { IfOk result (λ m. m.grown ≡ 0) }
+        ensures table { IfOk result (λ m. Agree surds (4 ^ n) (table_of m) (identity surds)) }
+        ensures built { IfOk result (λ m. IsBuiltOf n [] (scaled m)) }
+    {
+        let cells = identity_cells(alloc, n)?;
+        Ok(Channel {
+            n,
+            k: 0,
+            grown: 0,
+            cells,
+        })
+    }
+
+    /// Makes the channel into the gate's channel times it, in place.
+    pub fn left_gate(&mut self, gate: ChannelGate)
+        requires { Fits self.old.qubits gate }
+        ensures qubits { self.new.qubits ≡ self.old.qubits }
+        ensures exponent { self.new.exponent ≡ self.old.exponent }
+        ensures grown { self.new.grown ≡ self.old.grown }
+        ensures table { Agree surds (4 ^ self.old.qubits) (table_of self.new)
+            (product surds (4 ^ self.old.qubits) (gate_table self.old.qubits gate) (table_of self.old)) }
+        ensures built { (steps : List Step) → IsBuiltOf self.old.qubits steps (scaled self.old)
+            → IsBuiltOf self.old.qubits (steps ++ gate gate ∷ []) (scaled self.new) }
+    {
+        move_rows(&mut self.cells, self.n, gate);
+    }
+}
