@@ -4,3 +4,5 @@ pub mod Signs
 pub mod Rules
 pub mod Sweeps
 pub mod Built
+pub mod Squares
+pub mod Grids

@@ -42,26 +42,26 @@ pub record ScaledTable : Type 0 where
 
 -- the steps of which channels are built: a Clifford gate, a rotation by a Pauli, or the inverse of one
 pub data Step : Type 0 where
-  gate : ChannelGate → Step
-  rotation : ℕ → Step
-  inverse_rotation : ℕ → Step
+  by_gate : ChannelGate → Step
+  by_rotation : ℕ → Step
+  by_inverse_rotation : ℕ → Step
 
 -- a step on n qubits; the Pauli of a rotation isn't the identity
 abbrev pub IsStep : ℕ → Step → Type 0
-IsStep n (gate g) = Fits n g
-IsStep n (rotation p) = (p < 4 ^ n) × (p ≢ 0)
-IsStep n (inverse_rotation p) = (p < 4 ^ n) × (p ≢ 0)
+IsStep n (by_gate g) = Fits n g
+IsStep n (by_rotation p) = (p < 4 ^ n) × (p ≢ 0)
+IsStep n (by_inverse_rotation p) = (p < 4 ^ n) × (p ≢ 0)
 
 abbrev pub step_table : ℕ → Step → SurdTable
-step_table n (gate g) = gate_table n g
-step_table n (rotation p) = rotation_table n false p
-step_table n (inverse_rotation p) = rotation_table n true p
+step_table n (by_gate g) = gate_table n g
+step_table n (by_rotation p) = rotation_table n false p
+step_table n (by_inverse_rotation p) = rotation_table n true p
 
 -- how often its entries are to be divided by √2
 abbrev pub step_exponent : Step → ℕ
-step_exponent (gate g) = 0
-step_exponent (rotation p) = 1
-step_exponent (inverse_rotation p) = 1
+step_exponent (by_gate g) = 0
+step_exponent (by_rotation p) = 1
+step_exponent (by_inverse_rotation p) = 1
 
 -- a step's table times a table
 abbrev pub stepped : ℕ → Step → ScaledTable → ScaledTable

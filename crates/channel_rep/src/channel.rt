@@ -5,7 +5,7 @@ ghost use Rattle.tc_ring.specs.Root2.{surd_of};
 ghost use Rattle.tc_ring.specs.Surds.{surds, SurdWithin, one_surd};
 ghost use Rattle.channel_rep.specs.Cells.{entries, cell_of};
 ghost use Rattle.channel_rep.specs.Gates.{Fits};
-ghost use Rattle.channel_rep.specs.Tables.{Step, gate, rotation, inverse_rotation, gate_table, rotation_table, signed, SameTable, IsBuiltOf};
+ghost use Rattle.channel_rep.specs.Tables.{Step, by_gate, by_rotation, by_inverse_rotation, gate_table, rotation_table, signed, SameTable, IsBuiltOf};
 
 use crate::ChannelGate;
 use crate::steps::{codes, move_rows, rotate_rows};
@@ -93,8 +93,95 @@ impl Channel {
         ensures table { Agree surds (4 ^ self.old.qubits) (table_of self.new)
             (product surds (4 ^ self.old.qubits) (gate_table self.old.qubits gate) (table_of self.old)) }
         ensures built { (steps : List Step) → IsBuiltOf self.old.qubits steps (scaled self.old)
-            → IsBuiltOf self.old.qubits (steps ++ gate gate ∷ []) (scaled self.new) }
+            → IsBuiltOf self.old.qubits (steps ++ by_gate gate ∷ []) (scaled self.new) }
     {
         move_rows(&mut self.cells, self.n, gate);
+    }
+
+    /// Makes the channel into the rotation's channel times it, in place, or into that of the rotation's inverse.
+    fn turn(&mut self, p: &Pauli, inverse: bool)
+        requires same { p.now.qubits ≡ self.old.qubits }
+        requires other { p.now.code ≢ 0 }
+        requires room { self.old.grown < 62 }
+        ensures qubits { self.new.qubits ≡ self.old.qubits }
+        ensures exponent { self.new.exponent ≡ 1 + self.old.exponent }
+        ensures grown { self.new.grown ≡ 1 + self.old.grown }
+        ensures table { Agree surds (4 ^ self.old.qubits) (table_of self.new)
+            (product surds (4 ^ self.old.qubits) (rotation_table self.old.qubits inverse p.now.code) (table_of self.old)) }
+    {
+        rotate_rows(&mut self.cells, p, inverse);
+        self.k += 1;
+        self.grown += 1;
+    }
+
+    /// Makes the channel into that of the rotation R(p) times it, in place.
+    pub fn left_rotation(&mut self, p: Pauli)
+        requires same { p.qubits ≡ self.old.qubits }
+        requires other { p.code ≢ 0 }
+        requires room { self.old.grown < 62 }
+        ensures qubits { self.new.qubits ≡ self.old.qubits }
+        ensures exponent { self.new.exponent ≡ 1 + self.old.exponent }
+        ensures grown { self.new.grown ≡ 1 + self.old.grown }
+        ensures table { Agree surds (4 ^ self.old.qubits) (table_of self.new)
+            (product surds (4 ^ self.old.qubits) (rotation_table self.old.qubits false p.code) (table_of self.old)) }
+        ensures built { (steps : List Step) → IsBuiltOf self.old.qubits steps (scaled self.old)
+            → IsBuiltOf self.old.qubits (steps ++ by_rotation p.code ∷ []) (scaled self.new) }
+    {
+        self.turn(&p, false);
+    }
+
+    /// Makes the channel into that of the inverse of the rotation R(p) times it, in place.
+    pub fn left_rotation_inverse(&mut self, p: Pauli)
+        requires same { p.qubits ≡ self.old.qubits }
+        requires other { p.code ≢ 0 }
+        requires room { self.old.grown < 62 }
+        ensures qubits { self.new.qubits ≡ self.old.qubits }
+        ensures exponent { self.new.exponent ≡ 1 + self.old.exponent }
+        ensures grown { self.new.grown ≡ 1 + self.old.grown }
+        ensures table { Agree surds (4 ^ self.old.qubits) (table_of self.new)
+            (product surds (4 ^ self.old.qubits) (rotation_table self.old.qubits true p.code) (table_of self.old)) }
+        ensures built { (steps : List Step) → IsBuiltOf self.old.qubits steps (scaled self.old)
+            → IsBuiltOf self.old.qubits (steps ++ by_inverse_rotation p.code ∷ []) (scaled self.new) }
+    {
+        self.turn(&p, true);
+    }
+
+    /// The number of qubits, 1 to 3.
+    pub fn qubits(&self) -> u8
+        ensures value { result ≡ self.now.qubits }
+        ensures some { 0 < result }
+        ensures few { result ≤ 3 }
+    {
+        self.n
+    }
+
+    /// The power of √2 by which every cell is divided.
+    pub fn exponent(&self) -> u32
+        ensures value { result ≡ self.now.exponent }
+        ensures low { result ≤ self.now.grown }
+        ensures room { self.now.grown ≤ 62 }
+    {
+        self.k
+    }
+
+    /// The cell at a row and a column, before it is divided.
+    pub fn cell(&self, row: usize, col: usize) -> Root2
+        requires row { row < 4 ^ self.now.qubits }
+        requires col { col < 4 ^ self.now.qubits }
+        ensures value { surd_of result ≡ table_of self.now row col }
+        ensures small { SurdWithin (2 ^ self.now.grown) (surd_of result) }
+        ensures room { self.now.grown ≤ 62 }
+    {
+        self.cells[row * codes(self.n) + col]
+    }
+
+    /// Makes the channel into another of as many qubits.
+    pub fn copy_from(&mut self, o: &Channel)
+        requires { self.old.qubits ≡ o.now.qubits }
+        ensures { self.new ≡ o.now }
+    {
+        self.k = o.k;
+        self.grown = o.grown;
+        self.cells.copy_from_slice(&o.cells);
     }
 }

@@ -49,6 +49,7 @@ pub fn rotate_rows(cells: &mut [Root2], p: &Pauli, inverse: bool)
     requires whole { length cells.old ≡ 4 ^ p.now.qubits * 4 ^ p.now.qubits }
     requires small { EntriesWithin (2 ^ 61) (4 ^ p.now.qubits) cells.old }
     ensures whole { length cells.new ≡ 4 ^ p.now.qubits * 4 ^ p.now.qubits }
+    ensures code { p.now.code < 4 ^ p.now.qubits }
     ensures rows { (r c : ℕ) → r < 4 ^ p.now.qubits → c < 4 ^ p.now.qubits
         → entries (4 ^ p.now.qubits) cells.new r c ≡ rotated p.now.qubits inverse p.now.code (entries (4 ^ p.now.qubits) cells.old) r c }
 {

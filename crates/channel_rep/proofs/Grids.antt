@@ -1,0 +1,113 @@
+-- The cells of a channel stay within their bound.
+use Rattle.std.proofs.Common.{◌≡◌, ◌≢◌, ℕ, ◌+◌, ◌*◌, ◌^◌, ◌<◌, ◌≤◌, Bool, List, [], ◌∷◌, ◌++◌, length, take, drop, ap, sym, ◌∙◌, subst, inl, inr, arith, lit<}
+use Rattle.std.specs.Prelude.{pos}
+use Rattle.std.proofs.lemmas.Bool.{cases_eq}
+use Rattle.std.proofs.lemmas.Int.{ints}
+use Rattle.std.proofs.Math.Nat.{pow-le-pow_right}
+use Rattle.std.proofs.Math.Seq.{take-append_seam}
+use Rattle.channel_rep.proofs.Built.{built_more}
+use Rattle.std.proofs.lemmas.Nat.{pow-add}
+use Rattle.ring_laws.specs.Matrix.{identity, product, Agree}
+use Rattle.tc_ring.specs.Surds.{Surd, surds, SurdWithin, surd_integer}
+use Rattle.tc_ring.specs.declared.root2.Root2.{Root2}
+use Rattle.tc_ring.proofs.Surds.{surd_within_more}
+use Rattle.channel_rep.specs.Gates.{Fits}
+use Rattle.channel_rep.specs.Tables.{Step, by_gate, gate_table, rotation_table, IsBuiltOf}
+use Rattle.channel_rep.specs.Rows.{rotated, moved}
+use Rattle.channel_rep.specs.Cells.{ChannelGrid, IsChannelGrid, EntriesWithin, entries, scaled}
+use Rattle.channel_rep.specs.declared.gate.ChannelGate.{ChannelGate}
+use Rattle.channel_rep.proofs.Rules.{one_at, zero_at, gate_rule, rotation_rule, moved_within, rotated_within}
+
+abbrev pub grid : ℕ → ℕ → ℕ → List Root2 → ChannelGrid
+grid n k grown cells = record { qubits = n; exponent = k; grown = grown; cells = cells }
+
+within_one : (n : ℕ) → n ≤ 1 → SurdWithin 1 (surd_integer (pos n))
+unfolding surd_integer
+within_one n l = record { low_a = omega (arith, ints); high_a = omega (arith, ints); low_b = omega (arith, ints); high_b = omega (arith, ints) }
+
+identity_within : (r c : ℕ) → SurdWithin 1 (identity surds r c)
+identity_within r c = elim (cases_eq r c) [
+  | inl e ↦ subst (SurdWithin 1) (sym (one_at r c e)) (within_one 1 (omega arith))
+  | inr d ↦ subst (SurdWithin 1) (sym (zero_at r c d)) (within_one 0 (omega arith))
+]
+
+pub grid_identity : (n : ℕ) (cells : List Root2) → 0 < n → n ≤ 3 → length cells ≡ 4 ^ n * 4 ^ n → Agree surds (4 ^ n) (entries (4 ^ n) cells) (identity surds) → IsChannelGrid (grid n 0 0 cells)
+grid_identity n cells some few whole agree = record {
+  some = some;
+  few = few;
+  whole = whole;
+  low = omega arith;
+  room = omega arith;
+  small = λ r c l m. subst (SurdWithin 1) (sym (agree r c l m)) (identity_within r c);
+}
+
+-- a bound by a power of 2 that is at most 2 ^ 62
+pub grown_within : (n grown most : ℕ) (cells cells' : List Root2) → grown ≤ most → cells' ≡ cells → EntriesWithin (2 ^ grown) (4 ^ n) cells → EntriesWithin (2 ^ most) (4 ^ n) cells'
+grown_within n grown most cells cells' l e small r c h m =
+    surd_within_more (2 ^ grown) (2 ^ most) _ (pow-le-pow_right {n = 2} (lit< tt) l) (subst (λ xs. SurdWithin (2 ^ grown) (entries (4 ^ n) xs r c)) (sym e) (small r c h m))
+
+-- cells that were lent as a slice, and written
+given_back : (len size : ℕ) (old lent new : List Root2) → lent ≡ old → length lent ≡ len → length old ≡ size → length new ≡ size → take len (new ++ drop (length new) old) ≡ new
+given_back len size old lent new same long before after =
+    let e : len ≡ length new = sym long ∙ ap length same ∙ before ∙ sym after in
+    ap (λ k. take k (new ++ drop (length new) old)) e ∙ take-append_seam new (drop (length new) old)
+
+-- a channel after a gate
+pub record GateDone (n k grown : ℕ) (g : ChannelGate) (old new : List Root2) : Type 0 where
+  pub valid : IsChannelGrid (grid n k grown new)
+  pub table : Agree surds (4 ^ n) (entries (4 ^ n) new) (product surds (4 ^ n) (gate_table n g) (entries (4 ^ n) old))
+  pub built : (steps : List Step) → IsBuiltOf n steps (scaled (grid n k grown old)) → IsBuiltOf n (steps ++ by_gate g ∷ []) (scaled (grid n k grown new))
+
+pub gate_done : (n k grown len : ℕ) (old lent new : List Root2) (g : ChannelGate) → Fits n g → IsChannelGrid (grid n k grown old) → lent ≡ old → length lent ≡ len → length new ≡ 4 ^ n * 4 ^ n
+    → ((r c : ℕ) → r < 4 ^ n → c < 4 ^ n → entries (4 ^ n) new r c ≡ moved n g (entries (4 ^ n) lent) r c) → GateDone n k grown g old (take len (new ++ drop (length new) old))
+gate_done n k grown len old lent new g fits valid e long whole rows =
+    subst (GateDone n k grown g old) (sym (given_back len _ old lent new e long valid.whole whole)) (record {
+      valid = record {
+        some = valid.some;
+        few = valid.few;
+        whole = whole;
+        low = valid.low;
+        room = valid.room;
+        small = λ r c l m.
+            subst (SurdWithin (2 ^ grown)) (sym (rows r c l m))
+            (moved_within n (2 ^ grown) valid.some valid.few g fits (entries (4 ^ n) lent) (grown_within n grown grown old lent (omega arith) e valid.small) r c l m);
+      };
+      table = table;
+      built = λ steps. built_more n steps (by_gate g) (scaled (grid n k grown old)) (scaled (grid n k grown new)) (omega arith) table;
+    })
+  where
+    table : Agree surds (4 ^ n) (entries (4 ^ n) new) (product surds (4 ^ n) (gate_table n g) (entries (4 ^ n) old))
+    table r c l m = rows r c l m ∙ ap (λ xs. moved n g (entries (4 ^ n) xs) r c) e ∙ sym (gate_rule n valid.some valid.few g fits (entries (4 ^ n) old) r c l)
+
+-- a channel after a rotation
+pub record RotationDone (n k grown : ℕ) (inverse : Bool) (p : ℕ) (old new : List Root2) : Type 0 where
+  pub valid : IsChannelGrid (grid n (k + 1) (grown + 1) new)
+  pub table : Agree surds (4 ^ n) (entries (4 ^ n) new) (product surds (4 ^ n) (rotation_table n inverse p) (entries (4 ^ n) old))
+
+pub rotation_done : (n k grown len : ℕ) (old lent new : List Root2) (inverse : Bool) (p : ℕ) → p < 4 ^ n → p ≢ 0 → grown < 62 → IsChannelGrid (grid n k grown old) → lent ≡ old → length lent ≡ len
+    → length new ≡ 4 ^ n * 4 ^ n → ((r c : ℕ) → r < 4 ^ n → c < 4 ^ n → entries (4 ^ n) new r c ≡ rotated n inverse p (entries (4 ^ n) lent) r c)
+    → RotationDone n k grown inverse p old (take len (new ++ drop (length new) old))
+rotation_done n k grown len old lent new inverse p lp d room valid e long whole rows =
+    let low = valid.low in
+    subst (RotationDone n k grown inverse p old) (sym (given_back len _ old lent new e long valid.whole whole)) (record {
+      valid = record {
+        some = valid.some;
+        few = valid.few;
+        whole = whole;
+        low = omega arith;
+        room = omega arith;
+        small = λ r c l m.
+            subst (SurdWithin (2 ^ (grown + 1))) (sym (rows r c l m))
+            (surd_within_more (2 * 2 ^ grown) (2 ^ (grown + 1)) _ (omega (arith, pow-add 2 grown 1))
+              (rotated_within n (2 ^ grown) inverse p lp (entries (4 ^ n) lent) (grown_within n grown grown old lent (omega arith) e valid.small) r c l m));
+      };
+      table = λ r c l m. rows r c l m ∙ ap (λ xs. rotated n inverse p (entries (4 ^ n) xs) r c) e ∙ sym (rotation_rule n inverse p lp d (entries (4 ^ n) old) r c l);
+    })
+
+-- the same where the rotation's qubits are given by an equation
+pub rotation_done_at : (n q k grown len : ℕ) (old lent new : List Root2) (inverse : Bool) (p : ℕ) → q ≡ n → p < 4 ^ q → p ≢ 0 → grown < 62 → IsChannelGrid (grid n k grown old) → lent ≡ old → length lent ≡ len
+    → length new ≡ 4 ^ q * 4 ^ q → ((r c : ℕ) → r < 4 ^ q → c < 4 ^ q → entries (4 ^ q) new r c ≡ rotated q inverse p (entries (4 ^ q) lent) r c)
+    → RotationDone n k grown inverse p old (take len (new ++ drop (length new) old))
+rotation_done_at n q k grown len old lent new inverse p same lp d room valid e long whole rows =
+    rotation_done n k grown len old lent new inverse p (subst (λ m. p < 4 ^ m) same lp) d room valid e long (subst (λ m. length new ≡ 4 ^ m * 4 ^ m) same whole)
+    (subst (λ m. (r c : ℕ) → r < 4 ^ m → c < 4 ^ m → entries (4 ^ m) new r c ≡ rotated m inverse p (entries (4 ^ m) lent) r c) same rows)
