@@ -1,20 +1,22 @@
 -- The cells of a channel stay within their bound.
-use Rattle.std.proofs.Common.{◌≡◌, ◌≢◌, ℕ, ◌+◌, ◌*◌, ◌^◌, ◌<◌, ◌≤◌, Bool, List, [], ◌∷◌, ◌++◌, length, take, drop, ap, sym, ◌∙◌, subst, inl, inr, arith, lit<}
+use Rattle.std.proofs.Common.{◌≡◌, ◌≢◌, ◌⊎◌, ℕ, ◌+◌, ◌-◌, ◌*◌, ◌/◌, ◌%◌, ◌^◌, ◌<◌, ◌≤◌, Bool, List, [], ◌∷◌, ◌++◌, length, take, drop, ap, sym, ◌∙◌, subst, inl, inr, arith, lit<}
 use Rattle.std.specs.Prelude.{pos}
 use Rattle.std.proofs.lemmas.Bool.{cases_eq}
 use Rattle.std.proofs.lemmas.Int.{ints}
 use Rattle.std.proofs.Math.Nat.{pow-le-pow_right}
 use Rattle.std.proofs.Math.Seq.{take-append_seam}
-use Rattle.channel_rep.proofs.Built.{built_more}
+use Rattle.channel_rep.proofs.Built.{built_more, root2_to}
+use Rattle.channel_rep.proofs.OnePower.{within_power, brought}
+use Rattle.channel_rep.proofs.Squares.{place-lt, row_below, column_below, place_is}
 use Rattle.std.proofs.lemmas.Nat.{pow-add}
 use Rattle.ring_laws.specs.Matrix.{identity, product, Agree}
-use Rattle.tc_ring.specs.Surds.{Surd, surds, SurdWithin, surd_integer}
+use Rattle.tc_ring.specs.Surds.{Surd, surds, SurdWithin, IsOdd, surd_integer, surd_times}
 use Rattle.tc_ring.specs.declared.root2.Root2.{Root2}
 use Rattle.tc_ring.proofs.Surds.{surd_within_more}
 use Rattle.channel_rep.specs.Gates.{Fits}
-use Rattle.channel_rep.specs.Tables.{Step, by_gate, gate_table, rotation_table, IsBuiltOf}
+use Rattle.channel_rep.specs.Tables.{Step, by_gate, gate_table, rotation_table, SameTable, IsBuiltOf}
 use Rattle.channel_rep.specs.Rows.{rotated, moved}
-use Rattle.channel_rep.specs.Cells.{ChannelGrid, IsChannelGrid, EntriesWithin, entries, scaled}
+use Rattle.channel_rep.specs.Cells.{ChannelGrid, IsChannelGrid, HasOddCell, IsReduced, EntriesWithin, cell_of, entries, scaled}
 use Rattle.channel_rep.specs.declared.gate.ChannelGate.{ChannelGate}
 use Rattle.channel_rep.proofs.Rules.{one_at, zero_at, gate_rule, rotation_rule, moved_within, rotated_within}
 
@@ -111,3 +113,43 @@ pub rotation_done_at : (n q k grown len : ℕ) (old lent new : List Root2) (inve
 rotation_done_at n q k grown len old lent new inverse p same lp d room valid e long whole rows =
     rotation_done n k grown len old lent new inverse p (subst (λ m. p < 4 ^ m) same lp) d room valid e long (subst (λ m. length new ≡ 4 ^ m * 4 ^ m) same whole)
     (subst (λ m. (r c : ℕ) → r < 4 ^ m → c < 4 ^ m → entries (4 ^ m) new r c ≡ rotated m inverse p (entries (4 ^ m) lent) r c) same rows)
+
+-- a channel after its cells were divided by √2
+pub record ReduceDone (n k j grown : ℕ) (old new : List Root2) : Type 0 where
+  pub valid : IsChannelGrid (grid n j grown new)
+  pub value : SameTable n (scaled (grid n j grown new)) (scaled (grid n k grown old))
+  pub least : IsReduced (grid n j grown new)
+
+pub reduce_done : (n k j grown len : ℕ) (old lent new : List Root2) → IsChannelGrid (grid n k grown old) → lent ≡ old → length lent ≡ len → length new ≡ length lent → j ≤ k
+    → ((i : ℕ) → i < length lent → surd_times (root2_to (k - j)) (cell_of new i) ≡ cell_of lent i) → (j ≡ 0) ⊎ ((i : ℕ) × (i < length new) × IsOdd (cell_of new i).a)
+    → ReduceDone n k j grown old (take len (new ++ drop (length new) old))
+reduce_done n k j grown len old lent new valid e long kept less cells least =
+    let room = valid.room in
+    let low = valid.low in
+    subst (ReduceDone n k j grown old) (sym (given_back len _ old lent new e long valid.whole whole)) (record {
+      valid = record {
+        some = valid.some;
+        few = valid.few;
+        whole = whole;
+        low = omega arith;
+        room = room;
+        small = λ r c l m. within_power (2 ^ grown) (k - j) (entries (4 ^ n) new r c) (subst (SurdWithin (2 ^ grown)) (sym (once r c l m)) (valid.small r c l m));
+      };
+      value = λ r c l m. brought j k (entries (4 ^ n) new r c) (entries (4 ^ n) old r c) less (once r c l m);
+      least = elim least [ inl none ↦ inl none | inr odd ↦ inr (odd_cell odd.0 odd.1 odd.2) ];
+    })
+  where
+    whole : length new ≡ 4 ^ n * 4 ^ n
+    whole = kept ∙ ap length e ∙ valid.whole
+
+    once : (r c : ℕ) → r < 4 ^ n → c < 4 ^ n → surd_times (root2_to (k - j)) (entries (4 ^ n) new r c) ≡ entries (4 ^ n) old r c
+    once r c l m = cells (r * 4 ^ n + c) (omega (arith, place-lt (4 ^ n) r c l m, kept, whole)) ∙ ap (λ xs. cell_of xs (r * 4 ^ n + c)) e
+
+    odd_cell : (i : ℕ) → i < length new → IsOdd (cell_of new i).a → HasOddCell (grid n j grown new)
+    odd_cell i l odd = record {
+      row = i / 4 ^ n;
+      column = i % 4 ^ n;
+      row_below = row_below n i (omega (arith, whole));
+      column_below = column_below n i;
+      odd = subst (λ p. IsOdd (cell_of new p).a) (sym (place_is n i)) odd;
+    }

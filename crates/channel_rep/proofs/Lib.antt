@@ -6,3 +6,5 @@ pub mod Sweeps
 pub mod Built
 pub mod Squares
 pub mod Grids
+pub mod OneUnit
+pub mod OnePower

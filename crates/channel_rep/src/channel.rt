@@ -8,7 +8,10 @@ ghost use Rattle.channel_rep.specs.Gates.{Fits};
 ghost use Rattle.channel_rep.specs.Tables.{Step, by_gate, by_rotation, by_inverse_rotation, gate_table, rotation_table, signed, SameTable, IsBuiltOf};
 
 use crate::ChannelGate;
+use crate::halves::divide_out;
+use crate::rows::cell_at;
 use crate::steps::{codes, move_rows, rotate_rows};
+use crate::units::is_signed_permutation;
 use pauli_basis::Pauli;
 use std::alloc::{AllocError, Global};
 use std::marker::Model;
@@ -172,7 +175,7 @@ impl Channel {
         ensures small { SurdWithin (2 ^ self.now.grown) (surd_of result) }
         ensures room { self.now.grown ≤ 62 }
     {
-        self.cells[row * codes(self.n) + col]
+        cell_at(&self.cells, codes(self.n), row, col)
     }
 
     /// Makes the channel into another of as many qubits.
@@ -183,5 +186,50 @@ impl Channel {
         self.k = o.k;
         self.grown = o.grown;
         self.cells.copy_from_slice(&o.cells);
+    }
+
+    /// Divides the cells by √2 as often as all of them can be divided, at most as often as the exponent says: the value
+    /// stays, and the exponent becomes the least one.
+    pub fn reduce(&mut self)
+        ensures qubits { self.new.qubits ≡ self.old.qubits }
+        ensures grown { self.new.grown ≡ self.old.grown }
+        ensures exponent { self.new.exponent ≤ self.old.exponent }
+        ensures value { SameTable self.old.qubits (scaled self.new) (scaled self.old) }
+        ensures least { IsReduced self.new }
+        ensures built { (steps : List Step) → IsBuiltOf self.old.qubits steps (scaled self.old)
+            → IsBuiltOf self.old.qubits steps (scaled self.new) }
+    {
+        self.k = divide_out(&mut self.cells, self.k);
+    }
+
+    /// Whether the table, as it stands, is a signed permutation: no power of √2, and in each row and each column one cell
+    /// 1 or −1 and else 0. A table that can be divided by √2 is none; reduce it first.
+    pub fn signed_permutation(&self) -> bool
+        ensures { IsTrue result ↔ IsSignedPermutation self.now }
+    {
+        self.k == 0 && is_signed_permutation(&self.cells, codes(self.n))
+    }
+
+    /// The Pauli to which a signed permutation takes `p`, and whether with a negative sign: the row of the one cell of the
+    /// column of `p`, and whether it is −1.
+    pub fn image(&self, p: Pauli) -> (Pauli, bool)
+        requires permutation { IsSignedPermutation self.now }
+        requires same { p.qubits ≡ self.now.qubits }
+        ensures qubits { result.0.qubits ≡ self.now.qubits }
+        ensures code { result.0.code < 4 ^ self.now.qubits }
+        ensures cell { table_of self.now result.0.code p.code ≡ signed result.1 one_surd }
+    {
+        let size = codes(self.n);
+        let column = p.code() as usize;
+        for row in 0..size {
+            let cell = cell_at(&self.cells, size, row, column);
+            if cell.a != 0 {
+                let Some(image) = Pauli::new(self.n, row as u8) else {
+                    unreachable!()
+                };
+                return (image, cell.a < 0);
+            }
+        }
+        unreachable!()
     }
 }

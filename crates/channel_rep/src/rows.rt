@@ -1,5 +1,6 @@
 // Rows of cells, changed in place.
 ghost use Rattle.std.specs.Prelude.{◌≡◌, ◌≢◌, ℕ, ◌+◌, ◌*◌, ◌^◌, ◌<◌, ◌≤◌, length, if◌then◌else◌, true, false, not};
+ghost use Rattle.tc_ring.specs.Root2.{surd_of};
 ghost use Rattle.tc_ring.specs.Surds.{surd_plus, surd_negative, surd_times, root2_surd, SurdWithin};
 ghost use Rattle.channel_rep.specs.Tables.{signed};
 ghost use Rattle.channel_rep.specs.Cells.{cell_of, entries, RowWithin, ChangesPair, ChangesRow};
@@ -110,4 +111,14 @@ pub fn sign_row(cells: &mut [Root2], size: usize, row: usize, negative: bool)
     ensures row { ChangesRow size row (λ c. signed negative (entries size cells.old row c)) cells.old cells.new }
 {
     negate_if(&mut cells[row * size..(row + 1) * size], negative);
+}
+
+/// The cell at a row and a column.
+pub fn cell_at(cells: &[Root2], size: usize, row: usize, column: usize) -> Root2
+    requires whole { length cells.now ≡ size * size }
+    requires row { row < size }
+    requires column { column < size }
+    ensures { surd_of result ≡ entries size cells.now row column }
+{
+    cells[row * size + column]
 }
