@@ -16,7 +16,7 @@ use Rattle.tc_ring.proofs.Surds.{surd_within_more}
 use Rattle.channel_rep.specs.Gates.{Fits}
 use Rattle.channel_rep.specs.Tables.{Step, by_gate, gate_table, rotation_table, SameTable, IsBuiltOf}
 use Rattle.channel_rep.specs.Rows.{rotated, moved}
-use Rattle.channel_rep.specs.Cells.{ChannelGrid, IsChannelGrid, HasOddCell, IsReduced, EntriesWithin, cell_of, entries, scaled}
+use Rattle.channel_rep.specs.Cells.{HasOneUnit, IsSignedPermutation, ChannelGrid, IsChannelGrid, HasOddCell, IsReduced, EntriesWithin, cell_of, entries, scaled}
 use Rattle.channel_rep.specs.declared.gate.ChannelGate.{ChannelGate}
 use Rattle.channel_rep.proofs.Rules.{one_at, zero_at, gate_rule, rotation_rule, moved_within, rotated_within}
 
@@ -153,3 +153,20 @@ reduce_done n k j grown len old lent new valid e long kept less cells least =
       column_below = column_below n i;
       odd = subst (λ p. IsOdd (cell_of new p).a) (sym (place_is n i)) odd;
     }
+
+-- ---- signed permutations
+abbrev pub LinesHaveOneUnit : ℕ → List Root2 → Type 0
+LinesHaveOneUnit size cells =
+    ((row : ℕ) → row < size → HasOneUnit size (λ column. entries size cells row column)) × ((column : ℕ) → column < size → HasOneUnit size (λ row. entries size cells row column))
+
+pub lines_at : (n size : ℕ) (cells lent : List Root2) → size ≡ 4 ^ n → lent ≡ cells → LinesHaveOneUnit size lent → LinesHaveOneUnit (4 ^ n) cells
+lines_at n size cells lent e d h = subst (LinesHaveOneUnit (4 ^ n)) d (subst (λ size. LinesHaveOneUnit size lent) e h)
+
+pub lines_of : (n size : ℕ) (cells lent : List Root2) → size ≡ 4 ^ n → lent ≡ cells → LinesHaveOneUnit (4 ^ n) cells → LinesHaveOneUnit size lent
+lines_of n size cells lent e d h = subst (λ size. LinesHaveOneUnit size lent) (sym e) (subst (LinesHaveOneUnit (4 ^ n)) (sym d) h)
+
+-- one column of a signed permutation
+pub column_at : (n k grown size column : ℕ) (cells lent : List Root2) (g : ChannelGrid) → grid n k grown cells ≡ g → size ≡ 4 ^ n → lent ≡ cells → column < size → IsSignedPermutation g
+    → HasOneUnit size (λ row. entries size lent row column)
+column_at n k grown size column cells lent g is e d l h =
+    let own = subst IsSignedPermutation (sym is) h in (lines_of n size cells lent e d (own.rows, own.columns)).1 column l

@@ -1,5 +1,5 @@
 -- Lines with one entry that is 1 or −1.
-use Rattle.std.proofs.Common.{◌≡◌, ◌≢◌, ◌⊎◌, ℕ, ◌+◌, ◌<◌, ◌&&◌, Bool, true, false, refl, ap, sym, ◌∙◌, subst, inl, inr, arith}
+use Rattle.std.proofs.Common.{◌≡◌, ◌≢◌, ◌⊎◌, ℕ, ◌+◌, ◌*◌, ◌<◌, ◌&&◌, List, Bool, true, false, refl, ap, sym, ◌∙◌, subst, inl, inr, arith}
 use Rattle.std.specs.Ordering.{int_eq}
 use Rattle.std.specs.Bool.{MatchBool}
 use Rattle.std.proofs.lemmas.Bool.{cases_eq, and_parts, and_from, true≢false, MatchBool-at_true, MatchBool-at_false}
@@ -7,7 +7,9 @@ use Rattle.std.proofs.lemmas.Bool.Decides.{Decides-int_eq}
 use Rattle.std.proofs.lemmas.Int.{ints}
 use Rattle.tc_ring.specs.Surds.{Surd, surd_integer, surd_negative, zero_surd, one_surd}
 use Rattle.tc_ring.proofs.Surds.{same_surd}
-use Rattle.channel_rep.specs.Cells.{IsUnit, HasOneUnit}
+use Rattle.channel_rep.specs.Tables.{signed}
+use Rattle.channel_rep.specs.Cells.{IsUnit, HasOneUnit, cell_of, entries}
+use Rattle.tc_ring.specs.declared.root2.Root2.{Root2}
 
 -- what a comparison by both parts tells
 pub same_by_parts : (x y : Surd) (r : Bool) → r ≡ (int_eq x.a y.a && int_eq x.b y.b) → (r ≡ true → x ≡ y) × (x ≡ y → r ≡ true)
@@ -101,3 +103,38 @@ seen_two f i size found l e here h = (λ t. absurd (true≢false (sym t)), λ g.
 
 pub seen_other : (f : ℕ → Surd) (i size : ℕ) → i < size → (f i ≡ zero_surd → ⊥) → (IsUnit (f i) → ⊥) → (false ≡ true → HasOneUnit size f) × (HasOneUnit size f → false ≡ true)
 seen_other f i size l here unit = (λ t. absurd (true≢false (sym t)), λ g. absurd (not_other f i size l here unit g))
+
+-- ---- the lines of a table
+row_place : (size : ℕ) (cells : List Root2) (line k : ℕ) → cell_of cells (line * size + k * 1) ≡ entries size cells line k
+row_place size cells line k = let e : line * size + k * 1 ≡ line * size + k = omega arith in ap (cell_of cells) e
+
+column_place : (size : ℕ) (cells : List Root2) (line k : ℕ) → cell_of cells (line * 1 + k * size) ≡ entries size cells k line
+column_place size cells line k = let e : line * 1 + k * size ≡ k * size + line = omega arith in ap (cell_of cells) e
+
+pub rows_from_lines : (size : ℕ) (cells : List Root2) → ((line : ℕ) → line < size → HasOneUnit size (λ k. cell_of cells (line * size + k * 1))) → (row : ℕ) → row < size → HasOneUnit size (λ column. entries size cells row column)
+rows_from_lines size cells h row l = one_unit_to size _ _ (λ k m. row_place size cells row k) (h row l)
+
+pub lines_from_rows : (size : ℕ) (cells : List Root2) → ((row : ℕ) → row < size → HasOneUnit size (λ column. entries size cells row column)) → (line : ℕ) → line < size → HasOneUnit size (λ k. cell_of cells (line * size + k * 1))
+lines_from_rows size cells h line l = one_unit_to size _ _ (λ k m. sym (row_place size cells line k)) (h line l)
+
+pub columns_from_lines : (size : ℕ) (cells : List Root2) → ((line : ℕ) → line < size → HasOneUnit size (λ k. cell_of cells (line * 1 + k * size))) → (column : ℕ) → column < size → HasOneUnit size (λ row. entries size cells row column)
+columns_from_lines size cells h column l = one_unit_to size _ _ (λ k m. column_place size cells column k) (h column l)
+
+pub lines_from_columns : (size : ℕ) (cells : List Root2) → ((column : ℕ) → column < size → HasOneUnit size (λ row. entries size cells row column)) → (line : ℕ) → line < size → HasOneUnit size (λ k. cell_of cells (line * 1 + k * size))
+lines_from_columns size cells h line l = one_unit_to size _ _ (λ k m. sym (column_place size cells line k)) (h line l)
+
+-- the sign of 1 or −1
+pub unit_sign : (x : Surd) (b : Bool) → IsUnit x → (b ≡ true → x ≡ surd_negative one_surd) × (x ≡ surd_negative one_surd → b ≡ true) → x ≡ signed b one_surd
+unfolding signed
+unit_sign x b u h = by b u h.0 h.1
+  where
+    by : (b : Bool) → IsUnit x → (b ≡ true → x ≡ surd_negative one_surd) → (x ≡ surd_negative one_surd → b ≡ true) → x ≡ signed b one_surd
+    by true u is back = is refl
+    by false u is back = elim u [ inl e ↦ e | inr e ↦ absurd (true≢false (sym (back e))) ]
+
+-- an entry that isn't 0 is the one that is 1 or −1
+pub unit_here : (f : ℕ → Surd) (i size : ℕ) → i < size → HasOneUnit size f → (f i ≡ zero_surd → ⊥) → IsUnit (f i)
+unit_here f i size l h here = elim (cases_eq i h.place) [
+  | inl e ↦ subst (λ k. IsUnit (f k)) (sym e) h.unit
+  | inr d ↦ absurd (here (h.others i l d))
+]

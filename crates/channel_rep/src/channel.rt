@@ -11,7 +11,7 @@ use crate::ChannelGate;
 use crate::halves::divide_out;
 use crate::rows::cell_at;
 use crate::steps::{codes, move_rows, rotate_rows};
-use crate::units::is_signed_permutation;
+use crate::units::{is_signed_permutation, unit_of_column};
 use pauli_basis::Pauli;
 use std::alloc::{AllocError, Global};
 use std::marker::Model;
@@ -219,17 +219,10 @@ impl Channel {
         ensures code { result.0.code < 4 ^ self.now.qubits }
         ensures cell { table_of self.now result.0.code p.code ≡ signed result.1 one_surd }
     {
-        let size = codes(self.n);
-        let column = p.code() as usize;
-        for row in 0..size {
-            let cell = cell_at(&self.cells, size, row, column);
-            if cell.a != 0 {
-                let Some(image) = Pauli::new(self.n, row as u8) else {
-                    unreachable!()
-                };
-                return (image, cell.a < 0);
-            }
-        }
-        unreachable!()
+        let (row, negative) = unit_of_column(&self.cells, codes(self.n), p.code() as usize);
+        let Some(image) = Pauli::new(self.n, row as u8) else {
+            unreachable!()
+        };
+        (image, negative)
     }
 }

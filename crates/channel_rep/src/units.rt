@@ -1,9 +1,11 @@
 // Lines of cells in which one is 1 or −1 and the others are 0.
 ghost use Rattle.std.specs.Prelude.{◌≡◌, ℕ, ◌+◌, ◌*◌, ◌<◌, ◌≤◌, ◌↔◌, length, IsTrue};
 ghost use Rattle.tc_ring.specs.Root2.{surd_of};
-ghost use Rattle.tc_ring.specs.Surds.{zero_surd};
+ghost use Rattle.tc_ring.specs.Surds.{zero_surd, one_surd};
+ghost use Rattle.channel_rep.specs.Tables.{signed};
 ghost use Rattle.channel_rep.specs.Cells.{cell_of, entries, IsUnit, HasOneUnit};
 
+use crate::rows::cell_at;
 use tc_ring::Root2;
 
 const ZERO: Root2 = Root2 { a: 0, b: 0 };
@@ -64,4 +66,21 @@ pub fn is_signed_permutation(cells: &[Root2], size: usize) -> bool
             × ((column : ℕ) → column < size → HasOneUnit size (λ row. entries size cells.now row column))) }
 {
     all_have_one_unit(cells, size, size, 1) && all_have_one_unit(cells, size, 1, size)
+}
+
+/// The row of the one cell of a column that isn't 0, and whether it is negative.
+pub fn unit_of_column(cells: &[Root2], size: usize, column: usize) -> (usize, bool)
+    requires whole { length cells.now ≡ size * size }
+    requires below { column < size }
+    requires one { HasOneUnit size (λ row. entries size cells.now row column) }
+    ensures row { result.0 < size }
+    ensures cell { entries size cells.now result.0 column ≡ signed result.1 one_surd }
+{
+    for row in 0..size {
+        let cell = cell_at(cells, size, row, column);
+        if !is_zero(cell) {
+            return (row, cell == MINUS_ONE);
+        }
+    }
+    unreachable!()
 }
