@@ -1,7 +1,7 @@
 -- Bytes that move in pieces.
 use Rattle.std.proofs.lemmas.Grind.{common_steps}
 use Rattle.std.proofs.Math.Seq.{take-add}
-use Rattle.std.proofs.Common.{◌≡◌, ℕ, ◌+◌, ◌-◌, ◌<◌, ◌≤◌, List, [], ◌++◌, length, take, drop, sym, ap, ◌∙◌, append_assoc, arith, None, Some, length-append, length-take, min}
+use Rattle.std.proofs.Common.{◌≡◌, ℕ, ◌+◌, ◌-◌, ◌<◌, ◌≤◌, List, [], ◌++◌, length, take, drop, sym, ap, subst, ◌∙◌, append_assoc, arith, None, Some, length-append, length-take, min}
 use Rattle.std.specs.declared.option.Option.{Option}
 use Rattle.std.specs.Io.KnownBytes.{Appends, Consumes}
 use Rattle.tc_io.specs.Stream.{TakesFront, TakesAtMost}
@@ -41,3 +41,8 @@ takes_at_most n k a b c xs buf h g inside e = record {
   short = e;
   front = takes_front (length xs + k) k a b c xs buf h g inside (omega arith);
 }
+
+-- one write more of some bytes
+pub written_more : (a b c : Option (List ℕ)) (n at : ℕ) (bytes : List ℕ) → Appends a b (take at bytes) → Appends b c (take n (take (length bytes - at) (drop at bytes))) → Appends a c (take (at + n) bytes)
+written_more a b c n at bytes h g =
+    subst (λ (piece : List ℕ). Appends a c piece) (sym (next_piece n at bytes)) (appends_more a b c _ _ h g)

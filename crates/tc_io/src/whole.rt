@@ -72,7 +72,10 @@ pub fn write_all<K: Sink>(sink: &mut K, bytes: &[u8]) -> Result<(), Failed>
 {
     let mut at = 0;
     while at < bytes.len() {
-        at += sink.write(&bytes[at..])?;
+        match sink.write(&bytes[at..]) {
+            Ok(count) => at += count,
+            Err(Failed) => return Err(Failed),
+        }
     }
     Ok(())
 }
