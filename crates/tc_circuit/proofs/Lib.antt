@@ -1,0 +1,5 @@
+pub mod Flips
+pub mod Gates
+pub mod Cells
+pub mod Bounds
+pub mod Same

@@ -1,0 +1,5 @@
+pub mod Bits
+pub mod Gate
+pub mod Model
+pub mod Circuit
+pub mod Grid

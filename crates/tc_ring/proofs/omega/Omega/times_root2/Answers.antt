@@ -1,0 +1,14 @@
+use Rattle.std.proofs.Common.{arith, sym, subst}
+use Rattle.std.proofs.lemmas.Int.{ints}
+use Rattle.ring_laws.specs.Cyclotomic.{times, root2}
+use Rattle.ring_laws.proofs.Cyclotomic.{coordinatewise}
+use Rattle.tc_ring.specs.Bounds.{IsWithin}
+use Rattle.tc_ring.proofs.Bounds.{within_root2}
+use Rattle.tc_ring.proofs.omega.Omega.times_root2.Goals as goal
+
+pub returns-clause-value : goal.returns-clause-value
+unfolding times root2
+returns-clause-value c = coordinatewise record { x0 = omega (arith, ints); x1 = omega (arith, ints); x2 = omega (arith, ints); x3 = omega (arith, ints) }
+
+pub returns-clause-bound : goal.returns-clause-bound
+returns-clause-bound c = λ a small. subst (IsWithin _) (sym (returns-clause-value c)) (within_root2 a _ small)
