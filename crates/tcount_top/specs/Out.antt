@@ -29,7 +29,7 @@ pub data Out (words : List (List ℕ)) (text : List ℕ) : Status → List ℕ �
   not_plain : IsCommand words → length text ≤ 65536 → ((c : List Gate) → IsPlain text c → ⊥) → Out words text Refused (codes "refused 99\n")
   -- the least T-count of the text's circuit is at most the bound: a circuit that has it, behind its count and its word
   found : IsCommand words → length text ≤ 65536 → (c d : List Gate) (letters : List (List ℕ)) → IsPlain text c → IsOptimal 1 c d
-    → t_count_of d ≤ 0 → IsWord 1 (t_count_of d) letters → Out words text Found (shown 1 d letters)
+      → t_count_of d ≤ 0 → IsWord 1 (t_count_of d) letters → Out words text Found (shown 1 d letters)
   -- the least T-count of the text's circuit is above the bound
   above : IsCommand words → length text ≤ 65536 → (c : List Gate) → IsPlain text c → IsAbove 1 c 0 → Out words text Above (codes "above 0\n")
 

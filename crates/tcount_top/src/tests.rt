@@ -79,7 +79,10 @@ fn limits(rt: HostRuntime) -> Result<(), Fail> {
             text.extend_from_slice(b"h q[0];\n")?;
         }
         let mut source = CleanSource::new(text);
-        assert_eq!(rt; run(alloc, &WORDS, &mut source, &mut CleanSink::new()), status);
+        assert_eq!(rt;
+            run(alloc, &WORDS, &mut source, &mut CleanSink::new()),
+            status
+        );
     }
     let rows: [(usize, &[u8]); 2] = [(65536, b"refused 99\n"), (65537, b"refused 14\n")];
     for (spaces, bytes) in rows {
