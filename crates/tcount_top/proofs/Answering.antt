@@ -1,13 +1,12 @@
 -- What writing an outcome makes of a run.
-use Rattle.std.proofs.Common.{◌≡◌, ◌≢◌, ℕ, ◌<◌, ◌≤◌, List, [], ◌++◌, length, arith, sym, ap, ◌∙◌, subst, inl, inr, None, Some, refl, Bool, true, false}
+use Rattle.std.proofs.Common.{◌≡◌, ◌≢◌, ℕ, ◌<◌, List, [], ◌++◌, length, arith, sym, ap, ◌∙◌, subst, inl, inr, None, Some, Bool, true, false}
 use Rattle.std.specs.Prelude.{codes}
 use Rattle.std.specs.declared.option.Option.{Option}
 use Rattle.std.proofs.lemmas.List.{length-append, append-nil}
-use Rattle.tc_io.specs.Fault.{Rose}
 use Rattle.tc_io.specs.Stream.{ReadsAll, TakesFront}
 use Rattle.tcount_top.specs.Words.{IsCommand, usage_line}
 use Rattle.tcount_top.specs.Out.{Out, IsDue, usage, too_long, not_plain, found, above}
-use Rattle.tcount_top.specs.Run.{Answers, Responds, TakesText, OnContent, WritesOutcome, WritesPart, IsOutcome}
+use Rattle.tcount_top.specs.Run.{Answers, Responds, TakesText, OnContent, IsOutcome}
 use Rattle.tcount_top.specs.declared.top.Status.{Status}
 use Rattle.tcount_top.specs.declared.top.Status.TheVariants.{Found, Above, Refused, Usage, ReadFault, WriteFault, NoMemory}
 

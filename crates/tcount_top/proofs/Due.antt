@@ -11,7 +11,7 @@ use Rattle.tcount_top.specs.Shown.{IsLetter, IsWord, shown}
 use Rattle.tcount_top.specs.Rests.{rest_at}
 use Rattle.tcount_top.specs.Out.{Out, IsDue, IsAbove, IsOptimal, not_plain, found, above}
 use Rattle.tcount_top.specs.declared.top.Status.TheVariants.{Found, Above, Refused}
-use Rattle.tcount_top.proofs.Closed.{is_rest, IsRest}
+use Rattle.tcount_top.proofs.Closed.{is_rest}
 
 -- a circuit that is the same as none of the 24 has a T gate, and so has each that is the same
 is_above : (c : List Gate) → ((i : ℕ) → i < 24 → Same 1 c (rest_at i) → ⊥) → IsAbove 1 c 0
