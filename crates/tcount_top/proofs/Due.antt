@@ -21,15 +21,19 @@ is_above c none d f h =
       | inr some ↦ omega arith
     ]
 
+-- the outcome for a text that is not plain
 pub due_refused : (text bytes : List ℕ) → ((c : List Gate) → IsPlain text c → ⊥) → bytes ≡ codes "refused 99\n" → IsDue text Refused bytes
 due_refused text bytes none e words command short = subst (λ (b : List ℕ). Out words text Refused b) (sym e) (not_plain command short none)
 
+-- the outcome for a circuit that is the same as none of the 24
 pub due_above : (text bytes : List ℕ) (c : List Gate) → IsPlain text c → ((i : ℕ) → i < 24 → Same 1 c (rest_at i) → ⊥) → bytes ≡ codes "above 0\n" → IsDue text Above bytes
 due_above text bytes c plain none e words command short = subst (λ (b : List ℕ). Out words text Above b) (sym e) (above command short c plain (is_above c none))
 
+-- the empty word
 no_letters : (t : ℕ) → t ≡ 0 → IsWord 1 t []
 no_letters t e = (sym e, All-nil (λ (letter : List ℕ). IsLetter 1 letter))
 
+-- the outcome for a circuit that is the same as one without T gates
 pub due_found : (text bytes : List ℕ) (c d : List Gate) → IsPlain text c → Same 1 c d → IsCircuit 1 d → t_count_of d ≡ 0 → bytes ≡ shown 1 d [] → IsDue text Found bytes
 due_found text bytes c d plain same fit none shows words command short =
     let best : IsOptimal 1 c d = record { circuit = fit; same = same; least = record { reached = (d, fit, same, refl); least = λ x fx hx. omega (arith, none) } } in

@@ -1,5 +1,5 @@
 -- The print of a circuit without T gates on one qubit.
-use Rattle.std.proofs.Common.{◌≡◌, ℕ, ◌<◌, ◌≤◌, refl, ap, sym, subst, ◌∙◌, arith, List, [], ◌∷◌, ◌++◌, length, take}
+use Rattle.std.proofs.Common.{◌≡◌, ℕ, ◌≤◌, refl, ap, sym, ◌∙◌, arith, List, [], ◌∷◌, ◌++◌, length, take}
 use Rattle.std.specs.Prelude.{codes, decimal}
 use Rattle.std.specs.Fmt.{digits}
 use Rattle.std.specs.List.{flat_map}
@@ -10,10 +10,9 @@ use Rattle.tc_circuit.specs.declared.circuit.Gate.{Gate}
 use Rattle.tc_circuit.specs.declared.circuit.Gate.TheVariants.{H, S, Sdg, T, Tdg, Cx}
 use Rattle.tcount_top.specs.Plain.{line_of}
 use Rattle.tcount_top.specs.Shown.{qubit_text, gate_line, shown}
+use Rattle.tcount_top.proofs.Four.{at_zero}
 
-at_zero : (P : ℕ → Type 0) (q : ℕ) → q < 1 → P 0 → P q
-at_zero P q l p = let e : 0 ≡ q = omega arith in subst P e p
-
+-- the line of a gate on the one qubit is its printed line
 gate_line-one : (g : Gate) → Fits 1 g → line_of g ≡ gate_line g
 unfolding line_of gate_line qubit_text digits
 gate_line-one (H q) f = at_zero (λ q. line_of (H q) ≡ gate_line (H q)) q f refl
@@ -23,10 +22,12 @@ gate_line-one (T q) f = at_zero (λ q. line_of (T q) ≡ gate_line (T q)) q f re
 gate_line-one (Tdg q) f = at_zero (λ q. line_of (Tdg q) ≡ gate_line (Tdg q)) q f refl
 gate_line-one (Cx control target) f = absurd (f.2 (omega (arith, f.0, f.1)))
 
+-- the lines of a circuit on one qubit are its printed lines
 lines_one : (gates : List Gate) → IsCircuit 1 gates → flat_map line_of gates ≡ flat_map gate_line gates
 lines_one [] f = refl
 lines_one (g ∷ gates) f = cc (gate_line-one g f.0, lines_one gates f.1)
 
+-- the head of the print at T-count 0 and the empty word
 shown_start : (gates : List Gate) → t_count_of gates ≡ 0 → codes "// t-count 0\n// word\nOPENQASM 2.0;\ninclude \"qelib1.inc\";\nqreg q[1];\n" ++ flat_map gate_line gates ≡ shown 1 gates []
 unfolding shown digits
 shown_start gates e =

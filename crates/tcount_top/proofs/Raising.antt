@@ -1,5 +1,5 @@
 -- A number that is multiplied by √2 time after time, and a matrix that takes gate after gate.
-use Rattle.std.proofs.Common.{◌≡◌, ℕ, zero, suc, ◌+◌, ◌*◌, ◌^◌, ◌<◌, ◌≤◌, refl, ap, sym, subst, ◌∙◌, arith, List, [], ◌∷◌, ◌++◌, length, get_or, add-one}
+use Rattle.std.proofs.Common.{◌≡◌, ℕ, suc, ◌+◌, ◌*◌, ◌^◌, ◌<◌, ◌≤◌, refl, ap, sym, subst, ◌∙◌, arith, List, [], ◌∷◌, ◌++◌, add-one}
 use Rattle.std.proofs.Math.Nat.{pow-suc, pow-le-pow_right}
 use Rattle.ring_laws.specs.Ring.{power}
 use Rattle.ring_laws.specs.Matrix.{product, Agree}
@@ -9,29 +9,34 @@ use Rattle.ring_laws.proofs.Sums.{product-Agree}
 use Rattle.ring_laws.proofs.Cyclotomic.{cyclotomics_laws, times_assoc, one-times}
 use Rattle.tc_ring.specs.Bounds.{IsWithin}
 use Rattle.tc_ring.proofs.Bounds.{within_more}
-use Rattle.tc_circuit.specs.Gate.{gate_table, gate_exponent, Fits}
+use Rattle.tc_circuit.specs.Gate.{gate_table, gate_exponent}
 use Rattle.tc_circuit.specs.Grid.{Grid, table_of, scaled}
-use Rattle.tc_circuit.specs.Model.{ScaledMatrix, IsCircuit, matrix_of, SameUpTo, Same}
+use Rattle.tc_circuit.specs.Model.{ScaledMatrix, matrix_of, SameUpTo, Same}
 use Rattle.tc_circuit.specs.declared.circuit.Gate.{Gate}
 use Rattle.tc_circuit.specs.declared.circuit.Gate.TheVariants.{H, S, Sdg, T, Tdg, Cx}
 use Rattle.tc_circuit.proofs.Same.{after-append}
 use Rattle.tcount_top.specs.Compare.{IsMatrixOf, SameMatrix}
 
+-- a number times √2 taken no time
 pub raised_none : (a : Zω) → a ≡ times (power cyclotomics root2 0) a
 raised_none a = sym (ap (λ (p : Zω). times p a) (power-zero cyclotomics_laws root2) ∙ one-times a)
 
+-- a number times √2 taken once more
 pub raised_more : (k : ℕ) (x y a : Zω) → y ≡ times root2 x → x ≡ times (power cyclotomics root2 k) a → y ≡ times (power cyclotomics root2 (k + 1)) a
 raised_more k x y a e h =
     e ∙ ap (times root2) h ∙ sym (times_assoc root2 (power cyclotomics root2 k) a)
     ∙ ap (λ (p : Zω). times p a) (sym (power-suc cyclotomics_laws root2 k) ∙ ap (power cyclotomics root2) (sym (add-one k)))
 
+-- how far it is bounded then
 pub within_raised : (k : ℕ) (y : Zω) → IsWithin (2 * 2 ^ (60 + k)) y → IsWithin (2 ^ (60 + (k + 1))) y
 within_raised k y h =
     within_more _ _ y (omega (arith, pow-suc 2 (60 + k), ap (λ (n : ℕ). 2 ^ n) (let s : 60 + (k + 1) ≡ suc (60 + k) = omega arith in s))) h
 
+-- a bound by a greater power of two
 pub within_power : (j k : ℕ) (a : Zω) → j ≤ k → IsWithin (2 ^ j) a → IsWithin (2 ^ k) a
 within_power j k a l h = let two : 0 < 2 = omega arith in within_more _ _ a (pow-le-pow_right two l) h
 
+-- a gate adds at most one √2
 pub at_most_one : (g : Gate) → gate_exponent g ≤ 1
 at_most_one (H q) = omega arith
 at_most_one (S q) = omega arith
@@ -39,11 +44,6 @@ at_most_one (Sdg q) = omega arith
 at_most_one (T q) = omega arith
 at_most_one (Tdg q) = omega arith
 at_most_one (Cx control target) = omega arith
-
-pub circuit_at : (gates : List Gate) (i : ℕ) (d : Gate) → IsCircuit 1 gates → i < length gates → Fits 1 (get_or gates i d)
-circuit_at [] i d f l = absurd (omega arith)
-circuit_at (g ∷ gates) zero d f l = f.0
-circuit_at (g ∷ gates) (suc i) d f l = circuit_at gates i d f.1 (omega arith)
 
 -- a matrix of some gates, after one more
 pub matrix_more : (done : List Gate) (g : Gate) (m n : Grid) → IsMatrixOf done m → n.qubits ≡ m.qubits → n.exponent ≡ gate_exponent g + m.exponent
@@ -69,6 +69,7 @@ same_scaled j c d a b ha hb h = λ row k lr lk.
     ∙ ap (λ (e : ℕ). times (power cyclotomics root2 e) (times (power cyclotomics ω j) (table_of b row k))) ha.exponent
     ∙ ap (λ (w : Zω). times (power cyclotomics root2 (matrix_of 1 c).exponent) (times (power cyclotomics ω j) w)) (hb.entries row k lr lk)
 
+-- and the other way round
 scaled_same : (j : ℕ) (c d : List Gate) (a b : Grid) → IsMatrixOf c a → IsMatrixOf d b → SameUpTo (2 ^ 1) j (matrix_of 1 c) (matrix_of 1 d) → SameUpTo (2 ^ 1) j (scaled a) (scaled b)
 scaled_same j c d a b ha hb h = λ row k lr lk.
     ap (λ (e : ℕ). times (power cyclotomics root2 e) (table_of a row k)) hb.exponent
