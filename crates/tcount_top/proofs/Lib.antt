@@ -1,0 +1,7 @@
+pub mod Raising
+pub mod Four
+pub mod Closed
+pub mod Lines
+pub mod Print
+pub mod Due
+pub mod Answering
