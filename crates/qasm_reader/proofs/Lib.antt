@@ -1,0 +1,9 @@
+pub mod Shapes
+pub mod Grammar
+pub mod Splits
+pub mod Lookups
+pub mod Placing
+pub mod Registers
+pub mod Cut
+pub mod Takeable
+pub mod Outcomes

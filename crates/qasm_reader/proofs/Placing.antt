@@ -1,0 +1,67 @@
+-- Gates with qubits in place of the numbers of arguments: their T gates, and that they fit.
+use Rattle.std.proofs.Common.{◌≡◌, ℕ, zero, suc, ◌+◌, ◌*◌, ◌<◌, Bool, true, false, cond, List, [], ◌∷◌, ◌++◌, length, map, get_or, arith, ap, ◌∙◌, refl}
+use Rattle.std.specs.List.{flat_map}
+use Rattle.std.proofs.lemmas.List.Sums.{sum_by-cons, sum_by-append}
+use Rattle.std.proofs.lemmas.Bool.{eq-eqb}
+use Rattle.tc_circuit.specs.declared.circuit.Gate.{Gate}
+use Rattle.tc_circuit.specs.declared.circuit.Gate.TheVariants.{H, S, Sdg, T, Tdg, Cx}
+use Rattle.tc_circuit.specs.Gate.{Fits, is_t}
+use Rattle.tc_circuit.specs.Model.{IsCircuit, t_count_of}
+use Rattle.qasm_reader.specs.State.{placed, expanded}
+use Rattle.qasm_reader.specs.Known.{Known}
+
+-- a T gate stays one
+is_t-placed : (qs : List ℕ) (g : Gate) → is_t (placed qs g) ≡ is_t g
+is_t-placed qs (H a) = refl
+is_t-placed qs (S a) = refl
+is_t-placed qs (Sdg a) = refl
+is_t-placed qs (T a) = refl
+is_t-placed qs (Tdg a) = refl
+is_t-placed qs (Cx a b) = refl
+
+-- one or no T gate
+abbrev t_of : Gate → ℕ
+t_of g = cond (is_t g) 1 0
+
+-- the T gates of placed gates
+pub t_count-placed : (qs : List ℕ) (gs : List Gate) → t_count_of (map (placed qs) gs) ≡ t_count_of gs
+t_count-placed qs [] = refl
+t_count-placed qs (g ∷ gs) =
+    let one : t_of (placed qs g) ≡ t_of g = ap (λ (b : Bool). cond b 1 0) (is_t-placed qs g) in
+    omega (arith, sum_by-cons t_of (placed qs g) (map (placed qs) gs), sum_by-cons t_of g gs, one, t_count-placed qs gs)
+
+-- T gates add up
+pub t_count-append : (gs more : List Gate) → t_count_of (gs ++ more) ≡ t_count_of gs + t_count_of more
+t_count-append gs more = sum_by-append t_of gs more
+
+-- the T gates of gates on each qubit
+pub t_count-each : (gs : List Gate) (qs : List ℕ) → t_count_of (flat_map (λ q. map (placed (q ∷ [])) gs) qs) ≡ t_count_of gs * length qs
+t_count-each gs [] = omega arith
+t_count-each gs (q ∷ qs) =
+    let front = t_count-placed (q ∷ []) gs in
+    let more = t_count-each gs qs in
+    let whole = t_count-append (map (placed (q ∷ [])) gs) (flat_map (λ q. map (placed (q ∷ [])) gs) qs) in
+    omega (arith, front, more, whole)
+
+-- a gate of a circuit fits
+pub fits_at : (n : ℕ) (f : Gate → Gate) (gs : List Gate) (i : ℕ) (d : Gate) → IsCircuit n (map f gs) → i < length gs → Fits n (f (get_or gs i d))
+fits_at n f [] i d c h = absurd (omega arith)
+fits_at n f (g ∷ gs) zero d c h = c.0
+fits_at n f (g ∷ gs) (suc i) d c h = fits_at n f gs i d c.1 (omega arith)
+
+-- the parts of a circuit
+circuit_parts : (n : ℕ) (gs more : List Gate) → IsCircuit n (gs ++ more) → IsCircuit n gs × IsCircuit n more
+circuit_parts n [] more c = (tt, c)
+circuit_parts n (g ∷ gs) more c = let p = circuit_parts n gs more c.1 in ((c.0, p.0), p.1)
+
+-- the gates on one of the qubits
+pub circuit_at : (n : ℕ) (gs : List Gate) (qs : List ℕ) (i : ℕ) → IsCircuit n (flat_map (λ q. map (placed (q ∷ [])) gs) qs) → i < length qs
+    → IsCircuit n (map (placed (get_or qs i 0 ∷ [])) gs)
+circuit_at n gs [] i c h = absurd (omega arith)
+circuit_at n gs (q ∷ qs) zero c h = (circuit_parts n (map (placed (q ∷ [])) gs) _ c).0
+circuit_at n gs (q ∷ qs) (suc i) c h = circuit_at n gs qs i (circuit_parts n (map (placed (q ∷ [])) gs) _ c).1 (omega arith)
+
+-- the T gates of a gate of one argument
+pub t_count-expanded_one : (g : Known) (qs : List ℕ) → g.arity ≡ 1 → t_count_of (expanded g qs) ≡ t_count_of g.gates * length qs
+t_count-expanded_one g qs e =
+    ap (λ (b : Bool). t_count_of (cond b (flat_map (λ q. map (placed (q ∷ [])) g.gates) qs) (map (placed qs) g.gates))) (eq-eqb g.arity 1 e) ∙ t_count-each g.gates qs

@@ -1,0 +1,273 @@
+-- A statement to which no row applies can be taken: its gates fit the qubits, and they have few T gates.
+use Rattle.std.proofs.Common.{◌≡◌, ◌≢◌, ℕ, zero, suc, ◌+◌, ◌<◌, ◌≤◌, Bool, true, false, cond, not, ◌||◌, ◌&&◌, ◌==◌, List, [], ◌∷◌, ◌++◌, length, map, get_or, Option, Some, None, arith, ap, ◌∙◌, sym, refl, subst, ⊎_elim, length-append}
+use Rattle.std.specs.Prelude.{nat_lt, nat_le, is_none, MatchOption}
+use Rattle.std.specs.List.{AllByRecursion, list_all, list_any, flat_map, range_with_len}
+use Rattle.std.specs.Str.{bytes_eq}
+use Rattle.std.proofs.lemmas.Bool.{cases_Bool, and_parts, eqb-true, eqb-false, ltb-true, ltb-false, leb-false, lt-ltb, eq-eqb, not-true, not-false}
+use Rattle.tc_circuit.specs.declared.circuit.Gate.{Gate}
+use Rattle.tc_circuit.specs.declared.circuit.Gate.TheVariants.{H, S, Sdg, T, Tdg, Cx}
+use Rattle.tc_circuit.specs.Gate.{Fits}
+use Rattle.tc_circuit.specs.Model.{IsCircuit}
+use Rattle.qasm_reader.specs.declared.refusal.Refusal.{Refusal}
+use Rattle.qasm_reader.specs.Lexemes.{Lexeme}
+use Rattle.qasm_reader.specs.Forms.{Argument, Form, Include, Qreg, Creg, Barrier, Apply, HasForm}
+use Rattle.qasm_reader.specs.Known.{Known, look_up, table, known}
+use Rattle.qasm_reader.specs.State.{Register, State, value, find_register, qubits_in, qubits_at, qubits_of, placed, expanded, gates_at}
+use Rattle.qasm_reader.specs.Rows.{Statement, row_of, rows, first_of, takes_other, takes_bare, has_other_arity, has_bare, is_outside, is_no_statement, is_not_in_profile, is_taken, has_no_register, has_bad_index, names_twice, has_twins, has_too_many_qubits, has_too_many_t}
+use Rattle.qasm_reader.specs.Run.{IsTakeable}
+use Rattle.qasm_reader.proofs.Registers.{Inside}
+
+-- where no row applies, none of the list does
+abbrev NoRow : List (Refusal × Bool) → Type 0
+NoRow [] = Unit {0}
+NoRow (r ∷ rs) = (r.1 ≡ false) × NoRow rs
+
+-- a list without a first row
+no_row : (rs : List (Refusal × Bool)) → first_of rs ≡ None → NoRow rs
+no_row [] e = tt
+no_row ((n, true) ∷ rs) e = absurd (cc)
+no_row ((n, false) ∷ rs) e = (refl, no_row rs e)
+
+-- the rows that don't apply to a statement that isn't refused
+pub record Unrefused (s : State) (p : Statement) : Type 0 where
+  pub statement : is_no_statement p ≡ false
+  pub profile : is_not_in_profile p ≡ false
+  pub taken : is_taken s p.form ≡ false
+  pub registers : has_no_register s p.form ≡ false
+  pub index : has_bad_index s p.form ≡ false
+  pub twins : names_twice s p.form ≡ false
+  pub qubits : has_too_many_qubits s p.form ≡ false
+  pub t : has_too_many_t s p.form ≡ false
+  pub short : s.count < 4096
+
+-- a statement that isn't refused meets no row
+pub unrefused : (s : State) (p : Statement) → row_of s p ≡ None → Unrefused s p
+unfolding row_of rows
+unrefused s p e =
+    let n = no_row (rows s p) e in
+    record {
+      statement = n.0;
+      profile = n.1.0;
+      taken = n.1.1.0;
+      registers = n.1.1.1.1.0;
+      index = n.1.1.1.1.1.0;
+      twins = n.1.1.1.1.1.1.0;
+      qubits = n.1.1.1.1.1.1.1.0;
+      t = n.1.1.1.1.1.1.1.1.0;
+      short = leb-false _ _ n.1.1.1.1.1.1.1.1.1.0;
+    }
+
+-- a test that decides whether a gate fits
+fits : ℕ → Gate → Bool
+fits k (H a) = nat_lt a k
+fits k (S a) = nat_lt a k
+fits k (Sdg a) = nat_lt a k
+fits k (T a) = nat_lt a k
+fits k (Tdg a) = nat_lt a k
+fits k (Cx a b) = nat_lt a k && (nat_lt b k && not (a == b))
+
+fits_is : (k : ℕ) (g : Gate) → fits k g ≡ true → Fits k g
+unfolding fits
+fits_is k (H a) e = ltb-true _ _ e
+fits_is k (S a) e = ltb-true _ _ e
+fits_is k (Sdg a) e = ltb-true _ _ e
+fits_is k (T a) e = ltb-true _ _ e
+fits_is k (Tdg a) e = ltb-true _ _ e
+fits_is k (Cx a b) e =
+    let p = and_parts (nat_lt a k) _ e in
+    let q = and_parts (nat_lt b k) _ p.1 in
+    (ltb-true _ _ p.0, ltb-true _ _ q.0, eqb-false _ _ (not-true _ q.1))
+
+all_fit : (k : ℕ) (gs : List Gate) → list_all (fits k) gs ≡ true → IsCircuit k gs
+all_fit k [] e = tt
+all_fit k (g ∷ gs) e = let p = and_parts (fits k g) _ e in (fits_is k g p.0, all_fit k gs p.1)
+
+is_sound : Known → Bool
+is_sound g = nat_lt 0 g.arity && list_all (fits g.arity) g.gates
+
+look_up_is : (es : List (List ℕ × Known)) (name : List ℕ) (g : Known) → list_all (λ e. is_sound e.1) es ≡ true → look_up es name ≡ Some g → is_sound g ≡ true
+look_up_is [] name g e f = absurd (cc)
+look_up_is (x ∷ xs) name g e f =
+    let p = and_parts (is_sound x.1) _ e in
+    ⊎_elim
+    (λ (t : bytes_eq name x.0 ≡ true). let same : Some x.1 ≡ Some g = sym (ap (λ (b : Bool). cond b (Some x.1) (look_up xs name)) t) ∙ f in let one : x.1 ≡ g = cc in subst (λ (y : Known). is_sound y ≡ true) one p.0)
+    (λ (t : bytes_eq name x.0 ≡ false). look_up_is xs name g p.1 (sym (ap (λ (b : Bool). cond b (Some x.1) (look_up xs name)) t) ∙ f))
+    (cases_Bool (bytes_eq name x.0))
+
+known_is : (name : List ℕ) (g : Known) → known name ≡ Some g → (0 < g.arity) × IsCircuit g.arity g.gates
+unfolding known is_sound fits
+known_is name g e =
+    let s = look_up_is table name g refl e in
+    let p = and_parts (nat_lt 0 g.arity) _ s in
+    (ltb-true _ _ p.0, all_fit g.arity g.gates p.1)
+
+abbrev Below : ℕ → List ℕ → Type 0
+Below n qs = AllByRecursion (λ q. q < n) qs
+
+below_at : (n : ℕ) (qs : List ℕ) (i : ℕ) → Below n qs → i < length qs → get_or qs i 0 < n
+below_at n [] i b h = absurd (omega arith)
+below_at n (q ∷ qs) zero b h = b.0
+below_at n (q ∷ qs) (suc i) b h = below_at n qs i b.1 (omega arith)
+
+or_false : (x y : Bool) → (x || y) ≡ false → (x ≡ false) × (y ≡ false)
+or_false true y e = absurd (cc)
+or_false false y e = (refl, e)
+
+no_twin : (q : ℕ) (qs : List ℕ) (j : ℕ) → list_any (λ r. r == q) qs ≡ false → j < length qs → get_or qs j 0 ≢ q
+no_twin q [] j e h = absurd (omega arith)
+no_twin q (r ∷ rs) zero e h = eqb-false _ _ (or_false (r == q) _ e).0
+no_twin q (r ∷ rs) (suc j) e h = no_twin q rs j (or_false (r == q) _ e).1 (omega arith)
+
+apart : (qs : List ℕ) (i j : ℕ) → has_twins qs ≡ false → i < length qs → j < length qs → i ≢ j → get_or qs i 0 ≢ get_or qs j 0
+apart [] i j e h k n = absurd (omega arith)
+apart (q ∷ qs) zero zero e h k n = absurd (n refl)
+apart (q ∷ qs) zero (suc j) e h k n = λ same. no_twin q qs j (or_false _ _ e).0 (omega arith) (sym same)
+apart (q ∷ qs) (suc i) zero e h k n = no_twin q qs i (or_false _ _ e).0 (omega arith)
+apart (q ∷ qs) (suc i) (suc j) e h k n = apart qs i j (or_false _ _ e).1 (omega arith) (omega arith) (λ s. n (ap (λ (x : ℕ). suc x) s))
+
+placed_fits : (n : ℕ) (qs : List ℕ) (g : Gate) → Below n qs → has_twins qs ≡ false → Fits (length qs) g → Fits n (placed qs g)
+placed_fits n qs (H a) b t f = below_at n qs a b f
+placed_fits n qs (S a) b t f = below_at n qs a b f
+placed_fits n qs (Sdg a) b t f = below_at n qs a b f
+placed_fits n qs (T a) b t f = below_at n qs a b f
+placed_fits n qs (Tdg a) b t f = below_at n qs a b f
+placed_fits n qs (Cx a c) b t f = (below_at n qs a b f.0, below_at n qs c b f.1, apart qs a c t f.0 f.1 f.2)
+
+circuit_placed : (n : ℕ) (qs : List ℕ) (gs : List Gate) → Below n qs → has_twins qs ≡ false → IsCircuit (length qs) gs → IsCircuit n (map (placed qs) gs)
+circuit_placed n qs [] b t f = tt
+circuit_placed n qs (g ∷ gs) b t f = (placed_fits n qs g b t f.0, circuit_placed n qs gs b t f.1)
+
+circuit_append : (n : ℕ) (xs ys : List Gate) → IsCircuit n xs → IsCircuit n ys → IsCircuit n (xs ++ ys)
+circuit_append n [] ys a b = b
+circuit_append n (x ∷ xs) ys a b = (a.0, circuit_append n xs ys a.1 b)
+
+circuit_each : (n : ℕ) (qs : List ℕ) (gs : List Gate) → Below n qs → IsCircuit 1 gs → IsCircuit n (flat_map (λ q. map (placed (q ∷ [])) gs) qs)
+circuit_each n [] gs b f = tt
+circuit_each n (q ∷ qs) gs b f = circuit_append n (map (placed (q ∷ [])) gs) _ (circuit_placed n (q ∷ []) gs (b.0, tt) refl f) (circuit_each n qs gs b.1 f)
+
+below_append : (n : ℕ) (xs ys : List ℕ) → Below n xs → Below n ys → Below n (xs ++ ys)
+below_append n [] ys a b = b
+below_append n (x ∷ xs) ys a b = (a.0, below_append n xs ys a.1 b)
+
+range_below : (n size first : ℕ) → first + size ≤ n → Below n (range_with_len first size)
+range_below n zero first h = tt
+range_below n (suc size) first h = (omega arith, range_below n size (first + 1) (omega arith))
+
+found_inside : (n : ℕ) (rs : List Register) (name : List ℕ) (r : Register) → Inside n rs → find_register rs name ≡ Some r → (0 < r.size) × (r.first + r.size ≤ n)
+found_inside n [] name r i e = absurd (cc)
+found_inside n (x ∷ xs) name r i e =
+    ⊎_elim
+    (λ (t : bytes_eq x.name name ≡ true). let same : Some x ≡ Some r = sym (ap (λ (b : Bool). cond b (Some x) (find_register xs name)) t) ∙ e in let one : x ≡ r = cc in subst (λ (y : Register). (0 < y.size) × (y.first + y.size ≤ n)) one i.0)
+    (λ (t : bytes_eq x.name name ≡ false). found_inside n xs name r i.1 (sym (ap (λ (b : Bool). cond b (Some x) (find_register xs name)) t) ∙ e))
+    (cases_Bool (bytes_eq x.name name))
+
+in_below : (n : ℕ) (r : Register) (o : Option (List ℕ)) → r.first + r.size ≤ n → Below n (qubits_in r o)
+in_below n r None h = range_below n r.size r.first h
+in_below n r (Some d) h = go (nat_lt (value d) r.size) refl
+  where
+    go : (t : Bool) → nat_lt (value d) r.size ≡ t → Below n (cond t ((r.first + value d) ∷ []) [])
+    go true e = let l = ltb-true _ _ e in (omega arith, tt)
+    go false e = tt
+
+of_below : (n : ℕ) (rs : List Register) (args : List Argument) → Inside n rs → Below n (flat_map (qubits_of rs) args)
+of_below n rs [] i = tt
+of_below n rs (a ∷ args) i = below_append n (qubits_of rs a) _ (go (find_register rs a.name) refl) (of_below n rs args i)
+  where
+    go : (o : Option Register) → find_register rs a.name ≡ o → Below n (qubits_at o a.index)
+    go None e = tt
+    go (Some r) e = in_below n r a.index (found_inside n rs a.name r i e).1
+
+-- with an index each, arguments name as many qubits as they are
+one_each : (rs : List Register) (args : List Argument) → list_any (λ a. is_none (find_register rs a.name)) args ≡ false
+    → list_any (λ a. is_outside (find_register rs a.name) a.index) args ≡ false → list_any (λ a. is_none a.index) args ≡ false
+    → length (flat_map (qubits_of rs) args) ≡ length args
+one_each rs [] a b c = refl
+one_each rs (x ∷ xs) a b c =
+    let p = or_false _ _ a in
+    let q = or_false _ _ b in
+    let r = or_false _ _ c in
+    let more = one_each rs xs p.1 q.1 r.1 in
+    let one = go (find_register rs x.name) x.index p.0 q.0 r.0 in
+    omega (arith, length-append (qubits_of rs x) (flat_map (qubits_of rs) xs), one, more)
+  where
+    go : (o : Option Register) (i : Option (List ℕ)) → is_none o ≡ false → is_outside o i ≡ false → is_none i ≡ false → length (qubits_at o i) ≡ 1
+    go None i p q r = absurd (cc)
+    go (Some y) None p q r = absurd (cc)
+    go (Some y) (Some d) p q r = ap (λ (t : Bool). length (cond t ((y.first + value d) ∷ []) [])) (lt-ltb _ _ (leb-false _ _ q))
+
+third : (a b c : Bool) → a ≡ true → b ≡ true → (a && (b && c)) ≡ false → c ≡ false
+third true true c p q r = r
+third true false c p q r = absurd (cc)
+third false b c p q r = absurd (cc)
+
+-- the gates of a statement to which no row applies
+expanded_fits : (n : ℕ) (rs : List Register) (args : List Argument) (g : Known) → Inside n rs → (0 < g.arity) × IsCircuit g.arity g.gates
+    → takes_other (Some g) (length args) ≡ false → takes_bare (Some g) args ≡ false
+    → list_any (λ a. is_none (find_register rs a.name)) args ≡ false → list_any (λ a. is_outside (find_register rs a.name) a.index) args ≡ false
+    → has_twins (flat_map (qubits_of rs) args) ≡ false → IsCircuit n (expanded g (flat_map (qubits_of rs) args))
+expanded_fits n rs args g i k other bare reg out twins = go (g.arity == 1) refl
+  where
+    qs : List ℕ
+    qs = flat_map (qubits_of rs) args
+
+    count : g.arity ≡ length args
+    count = eqb-true _ _ (not-false _ other)
+
+    no_bare : 1 < g.arity → list_any (λ a. is_none a.index) args ≡ false
+    no_bare h = third (nat_lt 1 g.arity) (g.arity == length args) _ (lt-ltb _ _ h) (eq-eqb _ _ count) bare
+
+    go : (t : Bool) → (g.arity == 1) ≡ t → IsCircuit n (cond t (flat_map (λ q. map (placed (q ∷ [])) g.gates) qs) (map (placed qs) g.gates))
+    go true e = circuit_each n qs g.gates (of_below n rs args i) (subst (λ (k : ℕ). IsCircuit k g.gates) (eqb-true _ _ e) k.1)
+    go false e =
+        let not_one = eqb-false g.arity 1 e in
+        let many : 1 < g.arity = omega (arith, k.0, not_one) in
+        let size : g.arity ≡ length qs = count ∙ sym (one_each rs args reg out (no_bare many)) in
+        circuit_placed n qs g.gates (of_below n rs args i) twins (subst (λ (k : ℕ). IsCircuit k g.gates) size k.1)
+
+gates_fit : (n : ℕ) (rs : List Register) (args : List Argument) (name : List ℕ) (o : Option Known) → known name ≡ o → Inside n rs
+    → takes_other o (length args) ≡ false → takes_bare o args ≡ false
+    → list_any (λ a. is_none (find_register rs a.name)) args ≡ false → list_any (λ a. is_outside (find_register rs a.name) a.index) args ≡ false
+    → has_twins (flat_map (qubits_of rs) args) ≡ false → IsCircuit n (gates_at o (flat_map (qubits_of rs) args))
+gates_fit n rs args name None e i other bare reg out twins = tt
+gates_fit n rs args name (Some g) e i other bare reg out twins = expanded_fits n rs args g i (known_is name g e) other bare reg out twins
+
+
+-- the first argument's register has a qubit
+some_qubit : (n : ℕ) (rs : List Register) (args : List Argument) → Inside n rs → 0 < length args → list_any (λ a. is_none (find_register rs a.name)) args ≡ false → 0 < n
+some_qubit n rs [] i h e = absurd (omega arith)
+some_qubit n rs (a ∷ args) i h e = go (find_register rs a.name) refl (or_false _ _ e).0
+  where
+    go : (o : Option Register) → find_register rs a.name ≡ o → is_none o ≡ false → 0 < n
+    go None f g = absurd (cc)
+    go (Some r) f g = let p = found_inside n rs a.name r i f in omega (arith, p.0, p.1)
+
+-- a statement takes no other number of arguments
+other_arity : (p : Statement) → is_no_statement p ≡ false → has_other_arity p.form ≡ false
+unfolding is_no_statement
+other_arity p e = (or_false _ _ (or_false _ _ e).1).1
+
+-- a statement in the profile has no bare argument
+no_bare_argument : (p : Statement) → is_not_in_profile p ≡ false → has_bare p.form ≡ false
+unfolding is_not_in_profile
+no_bare_argument p e = (or_false _ _ (or_false _ _ e).1).1
+
+-- what the code relies on holds of a statement to which no row applies
+pub takeable : (s : State) (ws : List Lexeme) (o : Option Form) → HasForm ws o → Inside s.qubits s.registers → row_of s (record { lexemes = ws; form = o }) ≡ None → IsTakeable s o
+takeable s ws None h i row = tt
+takeable s ws (Some (Include text)) h i row = tt
+takeable s ws (Some (Qreg name size)) h i row =
+    let f = unrefused s (record { lexemes = ws; form = Some (Qreg name size) }) row in
+    let some = eqb-false (value size) 0 (or_false _ _ f.index).0 in
+    ((or_false _ _ f.taken).1, omega (arith, some), ltb-false _ _ f.qubits)
+takeable s ws (Some (Creg name size)) h i row = tt
+takeable s ws (Some (Barrier args)) h i row = tt
+takeable s ws (Some (Apply name args)) h i row =
+    let p : Statement = record { lexemes = ws; form = Some (Apply name args) } in
+    let f = unrefused s p row in
+    let other = other_arity p f.statement in
+    let bare = no_bare_argument p f.profile in
+    (
+      some_qubit s.qubits s.registers args i h.1.1.0 f.registers,
+      gates_fit s.qubits s.registers args name (known name) refl i other bare f.registers f.index f.twins,
+      ltb-false _ _ f.t,
+    )

@@ -1,0 +1,101 @@
+-- The forms of a statement: how each is spelled in tokens (OpenQASM 2.0).
+-- An include, a register of qubits, a register of bits, a barrier, and a gate on arguments.
+use Rattle.std.specs.Prelude.{◌≡◌, ℕ, ◌<◌, IsTrue, IfSome, List, [], ◌∷◌, ◌++◌, length, map, codes, Option, Some, None, MatchOption}
+use Rattle.std.specs.List.{AllByRecursion}
+use Rattle.qasm_lex.specs.declared.token.Kind.{Kind}
+use Rattle.qasm_lex.specs.declared.token.Kind.TheVariants.{Ident, Number, Quoted, Semi, Comma, LeftBracket, RightBracket, LeftBrace, RightBrace, LeftParen, RightParen, Other}
+use Rattle.qasm_reader.specs.Lexemes.{Lexeme, is_free, is_whole}
+
+-- `name` or `name [ digits ]`
+pub record Argument : Type 0 where
+  pub name : List ℕ
+  pub index : Option (List ℕ)
+
+-- what a statement says: the bytes of its quoted text, names and digits
+pub data Form : Type 0 where
+  Include : List ℕ → Form
+  Qreg : List ℕ → List ℕ → Form
+  Creg : List ℕ → List ℕ → Form
+  Barrier : List Argument → Form
+  Apply : List ℕ → List Argument → Form
+
+-- what a spelling says of a token: its kind, and its bytes where the kind leaves them open
+pub record Shape : Type 0 where
+  pub kind : Kind
+  pub bytes : List ℕ
+
+abbrev pub told_bytes : Kind → List ℕ → List ℕ
+told_bytes Ident bytes = bytes
+told_bytes Number bytes = bytes
+told_bytes Quoted bytes = bytes
+told_bytes Semi bytes = []
+told_bytes Comma bytes = []
+told_bytes LeftBracket bytes = []
+told_bytes RightBracket bytes = []
+told_bytes LeftBrace bytes = []
+told_bytes RightBrace bytes = []
+told_bytes LeftParen bytes = []
+told_bytes RightParen bytes = []
+told_bytes Other bytes = bytes
+
+abbrev pub shape : Lexeme → Shape
+shape w = record { kind = w.kind; bytes = told_bytes w.kind w.bytes }
+
+abbrev pub ident : List ℕ → Shape
+ident bytes = record { kind = Ident; bytes = bytes }
+
+abbrev pub number : List ℕ → Shape
+number bytes = record { kind = Number; bytes = bytes }
+
+abbrev pub quoted : List ℕ → Shape
+quoted bytes = record { kind = Quoted; bytes = bytes }
+
+abbrev pub mark : Kind → Shape
+mark kind = record { kind = kind; bytes = [] }
+
+-- `[ digits ]`
+abbrev pub in_brackets : List ℕ → List Shape
+in_brackets digits = mark LeftBracket ∷ number digits ∷ mark RightBracket ∷ []
+
+abbrev pub index_in : Option (List ℕ) → List Shape
+index_in None = []
+index_in (Some digits) = in_brackets digits
+
+abbrev pub argument : Argument → List Shape
+argument a = ident a.name ∷ index_in a.index
+
+-- arguments, separated by commas
+unfoldable pub arguments : List Argument → List Shape
+arguments [] = []
+arguments (a ∷ []) = argument a
+arguments (a ∷ b ∷ args) = argument a ++ mark Comma ∷ arguments (b ∷ args)
+
+-- how each form is spelled
+abbrev pub spelled : Form → List Shape
+spelled (Include text) = (ident (codes "include") ∷ quoted text ∷ []) ++ mark Semi ∷ []
+spelled (Qreg name size) = (ident (codes "qreg") ∷ ident name ∷ in_brackets size) ++ mark Semi ∷ []
+spelled (Creg name size) = (ident (codes "creg") ∷ ident name ∷ in_brackets size) ++ mark Semi ∷ []
+spelled (Barrier args) = (ident (codes "barrier") ∷ arguments args) ++ mark Semi ∷ []
+spelled (Apply name args) = (ident name ∷ arguments args) ++ mark Semi ∷ []
+
+abbrev pub IsArgument : Argument → Type 0
+IsArgument a = IsTrue (is_free a.name) × IfSome a.index (λ digits. IsTrue (is_whole digits))
+
+abbrev pub AreArguments : List Argument → Type 0
+AreArguments args = (0 < length args) × AllByRecursion IsArgument args
+
+-- its names aren't reserved, its digits have no point, and its arguments are one or more
+abbrev pub HasParts : Form → Type 0
+HasParts (Include text) = Unit {0}
+HasParts (Qreg name size) = IsTrue (is_free name) × IsTrue (is_whole size)
+HasParts (Creg name size) = IsTrue (is_free name) × IsTrue (is_whole size)
+HasParts (Barrier args) = AreArguments args
+HasParts (Apply name args) = IsTrue (is_free name) × AreArguments args
+
+-- the lexemes are this form, spelled
+abbrev pub IsForm : List Lexeme → Form → Type 0
+IsForm ws f = (map shape ws ≡ spelled f) × HasParts f
+
+-- the lexemes have this form, or none
+abbrev pub HasForm : List Lexeme → Option Form → Type 0
+HasForm ws o = MatchOption o ((f : Form) → IsForm ws f → ⊥) (λ f. IsForm ws f)

@@ -1,0 +1,11 @@
+pub mod Lexemes
+pub mod Forms
+pub mod Known
+pub mod State
+pub mod Limits
+pub mod Refusals
+pub mod Rows
+pub mod Read
+pub mod Parse
+pub mod View
+pub mod Run

@@ -1,0 +1,47 @@
+-- What the private functions say of a scan: one statement taken, and all of them.
+use Rattle.std.specs.Prelude.{◌≡◌, ℕ, ◌+◌, ◌<◌, ◌≤◌, false, List, map, Option, Some, None, Ok, Err}
+use Rattle.tc_circuit.specs.Model.{IsCircuit, t_count_of}
+use Rattle.qasm_reader.specs.declared.fault.ReadFault.{ReadFault}
+use Rattle.qasm_reader.specs.declared.fault.ReadFault.TheVariants.{Refused, Memory}
+use Rattle.qasm_reader.specs.declared.refusal.Refusal.{Refusal}
+use Rattle.qasm_reader.specs.declared.scan.Scan.{Scan}
+use Rattle.qasm_reader.specs.Lexemes.{Lexeme, statements}
+use Rattle.qasm_reader.specs.Forms.{Form, Include, Qreg, Creg, Barrier, Apply}
+use Rattle.qasm_reader.specs.Parse.{form_of}
+use Rattle.qasm_reader.specs.State.{State, start, value, gates_in, after}
+use Rattle.qasm_reader.specs.Limits.{most_qubits, most_t_gates}
+use Rattle.qasm_reader.specs.Refusals.{number_of}
+use Rattle.qasm_reader.specs.Rows.{Statement, row_of}
+use Rattle.qasm_reader.specs.Read.{place_of, scan}
+use Rattle.qasm_reader.specs.View.{state}
+
+-- a statement with its form
+abbrev pub statement_at : List Lexeme → Statement
+statement_at ws = record { lexemes = ws; form = form_of ws }
+
+abbrev pub stated : List (List Lexeme) → List Statement
+stated wss = map statement_at wss
+
+-- what the code relies on where it takes a form: qubits come before gates and are few, and gates fit and have few T gates
+abbrev pub IsTakeable : State → Option Form → Type 0
+IsTakeable s (Some (Qreg name size)) = (s.began ≡ false) × (0 < value size) × (s.qubits + value size ≤ most_qubits)
+IsTakeable s (Some (Apply name args)) = (0 < s.qubits) × IsCircuit s.qubits (gates_in s (Some (Apply name args))) × (t_count_of s.gates + t_count_of (gates_in s (Some (Apply name args))) ≤ most_t_gates)
+IsTakeable s other = Unit {0}
+
+-- no row applies to the statement, and this holds behind it
+abbrev pub Takes : State → List Lexeme → Scan → Type 0
+Takes s ws t = (row_of s (statement_at ws) ≡ None) × (state t ≡ after s (form_of ws))
+
+-- the fault is the first row that applies to the statement, at its first token, or want of memory
+abbrev pub IsRowFault : State → List Lexeme → ReadFault → Type 0
+IsRowFault s ws (Refused number place) = (why : Refusal) × (row_of s (statement_at ws) ≡ Some why) × (number ≡ number_of why) × (place ≡ place_of 0 ws)
+IsRowFault s ws Memory = Unit {0}
+
+-- no row applies to a statement of the lexemes, and this holds behind all
+abbrev pub Scans : List Lexeme → Scan → Type 0
+Scans ws t = scan start (stated (statements ws)) ≡ Ok (state t)
+
+-- the fault is that of the first statement to which a row applies, or want of memory
+abbrev pub IsScanFault : List Lexeme → ReadFault → Type 0
+IsScanFault ws (Refused number place) = (why : Refusal) × (scan start (stated (statements ws)) ≡ Err (record { refusal = why; place = place })) × (number ≡ number_of why)
+IsScanFault ws Memory = Unit {0}

@@ -1,0 +1,100 @@
+// Known gates on the qubits of a circuit.
+ghost use Rattle.std.specs.Prelude.{◌≡◌, ◌∷◌, [], ◌++◌, map, min, OnOk, slice_index, Option, option_map};
+ghost use Rattle.std.specs.List.{flat_map};
+ghost use Rattle.tc_circuit.specs.Model.{IsCircuit, t_count_of};
+ghost use Rattle.qasm_reader.specs.State.{placed, gates_at};
+ghost use Rattle.qasm_reader.specs.View.{known_gate};
+
+use crate::gates::Known;
+use std::alloc::AllocError;
+use tc_circuit::{Circuit, Gate};
+
+fn qubit_at(qubits: &[u8], a: u8) -> u8
+    ensures { result ≡ slice_index qubits.now a }
+{
+    qubits.get(usize::from(a)).copied().unwrap_or(0)
+}
+
+// The gate with qubits in place of the numbers of the arguments.
+fn placed(qubits: &[u8], gate: Gate) -> Gate
+    ensures { result ≡ placed qubits.now gate }
+{
+    match gate {
+        Gate::H(a) => Gate::H(qubit_at(qubits, a)),
+        Gate::S(a) => Gate::S(qubit_at(qubits, a)),
+        Gate::Sdg(a) => Gate::Sdg(qubit_at(qubits, a)),
+        Gate::T(a) => Gate::T(qubit_at(qubits, a)),
+        Gate::Tdg(a) => Gate::Tdg(qubit_at(qubits, a)),
+        Gate::Cx(a, b) => Gate::Cx(qubit_at(qubits, a), qubit_at(qubits, b)),
+    }
+}
+
+fn push_placed(circuit: &mut Circuit, gates: &[Gate], qubits: &[u8]) -> Result<(), AllocError>
+    requires { IsCircuit circuit.old.qubits (map (placed qubits.now) gates.now) }
+    ensures qubits { circuit.new.qubits ≡ circuit.old.qubits }
+    ensures gates { OnOk result (circuit.new.gates ≡ circuit.old.gates ++ map (placed qubits.now) gates.now) }
+{
+    for gate in gates {
+        circuit.push(placed(qubits, *gate))?;
+    }
+    Ok(())
+}
+
+fn push_each(circuit: &mut Circuit, gates: &[Gate], qubits: &[u8]) -> Result<(), AllocError>
+    requires { IsCircuit circuit.old.qubits (flat_map (λ q. map (placed (q ∷ [])) gates.now) qubits.now) }
+    ensures qubits { circuit.new.qubits ≡ circuit.old.qubits }
+    ensures gates { OnOk result (circuit.new.gates ≡ circuit.old.gates ++ flat_map (λ q. map (placed (q ∷ [])) gates.now) qubits.now) }
+{
+    for q in qubits {
+        push_placed(circuit, gates, &[*q])?;
+    }
+    Ok(())
+}
+
+// Adds the gates of a gate that may be known on these qubits.
+pub(crate) fn push_gates(
+    circuit: &mut Circuit,
+    known: Option<Known>,
+    qubits: &[u8],
+) -> Result<(), AllocError>
+    requires { IsCircuit circuit.old.qubits (gates_at (option_map known_gate known) qubits.now) }
+    ensures qubits { circuit.new.qubits ≡ circuit.old.qubits }
+    ensures gates { OnOk result (circuit.new.gates ≡ circuit.old.gates ++ gates_at (option_map known_gate known.entry) qubits.now) }
+{
+    match known {
+        None => Ok(()),
+        Some(gate) => {
+            if gate.arity == 1 {
+                push_each(circuit, gate.gates, qubits)
+            } else {
+                push_placed(circuit, gate.gates, qubits)
+            }
+        }
+    }
+}
+
+fn t_count(gates: &[Gate]) -> usize
+    ensures { result ≡ t_count_of gates.now }
+{
+    gates
+        .iter()
+        .filter(|gate| matches!(gate, Gate::T(_) | Gate::Tdg(_)))
+        .count()
+}
+
+// How many T gates a gate that may be known has on these qubits, or the greatest number where it has more.
+pub(crate) fn t_count_at(known: Option<Known>, qubits: &[u8]) -> usize
+    ensures { result ≡ min (t_count_of (gates_at (option_map known_gate known.entry) qubits.now)) usize.MAX }
+{
+    match known {
+        None => 0,
+        Some(gate) => {
+            let count = t_count(gate.gates);
+            if gate.arity == 1 {
+                count.saturating_mul(qubits.len())
+            } else {
+                count
+            }
+        }
+    }
+}

@@ -1,0 +1,167 @@
+// The forms of a statement.
+ghost use Rattle.std.specs.Prelude.{◌≡◌, ℕ, List, [], ◌∷◌, ◌++◌, map, codes, IfOk, IfSome, MatchOption, Option, option_map};
+ghost use Rattle.std.specs.List.{slice_split};
+ghost use Rattle.qasm_lex.specs.declared.token.Kind.TheVariants.{Comma as comma};
+ghost use Rattle.qasm_reader.specs.Lexemes.{is_kind};
+ghost use Rattle.qasm_reader.specs.Parse.{body_of, indexed_at, argument_at, arguments_at, all_some, include_at, form_behind, form_in, form_of};
+ghost use Rattle.qasm_reader.specs.View.{lexeme, lexemes, argument, arguments, form};
+
+use crate::lexemes::{Lexeme, before, is_digits, is_ident, is_kind, is_name};
+use qasm_lex::Kind;
+use std::alloc::{AllocError, Global};
+
+#[derive(Clone, Copy)]
+pub(crate) struct Argument<'a> {
+    pub name: &'a [u8],
+    pub index: Option<&'a [u8]>,
+}
+
+#[derive(Drop)]
+pub(crate) enum Form<'a> {
+    Include(&'a [u8]),
+    Qreg(&'a [u8], &'a [u8]),
+    Creg(&'a [u8], &'a [u8]),
+    Barrier(Vec<Argument<'a>>),
+    Apply(&'a [u8], Vec<Argument<'a>>),
+}
+
+// The statement without its Semi, if it has one.
+#[tactic(auto, unfolding(crate::specs::Parse::body_of))]
+fn body_of<'b, 'a>(statement: &'b [Lexeme<'a>]) -> Option<&'b [Lexeme<'a>]>
+    ensures { option_map (λ b. lexemes b.now) result ≡ body_of (lexemes statement.now) }
+{
+    let (last, body) = statement.split_last()?;
+    if is_kind(last, Kind::Semi) {
+        Some(body)
+    } else {
+        None
+    }
+}
+
+// `name [ digits ]`
+#[tactic(auto, unfolding(crate::specs::Parse::indexed_at))]
+fn indexed_at<'a>(ws: &[Lexeme<'a>]) -> Option<(&'a [u8], &'a [u8])>
+    ensures { option_map (λ x. (x.0.now, x.1.now)) result ≡ indexed_at (lexemes ws.now) }
+{
+    match ws {
+        [name, left, size, right] => {
+            if is_name(name)
+                && is_kind(left, Kind::LeftBracket)
+                && is_digits(size)
+                && is_kind(right, Kind::RightBracket)
+            {
+                Some((name.bytes, size.bytes))
+            } else {
+                None
+            }
+        }
+        _ => None,
+    }
+}
+
+// An argument.
+#[tactic(auto, unfolding(crate::specs::Parse::argument_at))]
+fn argument_at<'a>(ws: &[Lexeme<'a>]) -> Option<Argument<'a>>
+    ensures { option_map argument result ≡ argument_at (lexemes ws.now) }
+{
+    match ws {
+        [] => None,
+        [name] => {
+            if is_name(name) {
+                Some(Argument {
+                    name: name.bytes,
+                    index: None,
+                })
+            } else {
+                None
+            }
+        }
+        _ => {
+            let (name, index) = indexed_at(ws)?;
+            Some(Argument {
+                name,
+                index: Some(index),
+            })
+        }
+    }
+}
+
+// Arguments between commas.
+fn arguments_at<'a>(alloc: Global, ws: &[Lexeme<'a>]) -> Result<Option<Vec<Argument<'a>>>, AllocError>
+    ensures { IfOk result (λ o. option_map (λ v. arguments v.items) o ≡ arguments_at (lexemes ws.now)) }
+{
+    let mut found = Vec::new(alloc);
+    let mut at = 0;
+    'parts: while at <= ws.len() {
+        let (part, more) = ws[at..].split_at(before(&ws[at..], Kind::Comma));
+        let Some(argument) = argument_at(part) else {
+            return Ok(None);
+        };
+        found.push(argument)?;
+        if more.is_empty() {
+            return Ok(Some(found));
+        }
+        at += part.len() + 1;
+    }
+    Ok(Some(found))
+}
+
+#[tactic(auto, unfolding(crate::specs::Parse::include_at))]
+fn include_at<'a>(ws: &[Lexeme<'a>]) -> Option<Form<'a>>
+    ensures { option_map form result ≡ include_at (lexemes ws.now) }
+{
+    match ws {
+        [text] => {
+            if is_kind(text, Kind::Quoted) {
+                Some(Form::Include(text.bytes))
+            } else {
+                None
+            }
+        }
+        _ => None,
+    }
+}
+
+// The form of a statement without its Semi.
+#[tactic(auto, unfolding(crate::specs::Parse::form_behind))]
+fn form_behind<'a>(
+    alloc: Global,
+    first: &Lexeme<'a>,
+    ws: &[Lexeme<'a>],
+) -> Result<Option<Form<'a>>, AllocError>
+    ensures { IfOk result (λ o. option_map form o ≡ form_behind (lexeme first.now) (lexemes ws.now)) }
+{
+    if is_ident(first, b"include".as_slice()) {
+        return Ok(include_at(ws));
+    }
+    if is_ident(first, b"qreg".as_slice()) {
+        return Ok(indexed_at(ws).map(|(name, size)| Form::Qreg(name, size)));
+    }
+    if is_ident(first, b"creg".as_slice()) {
+        return Ok(indexed_at(ws).map(|(name, size)| Form::Creg(name, size)));
+    }
+    if is_ident(first, b"barrier".as_slice()) {
+        return Ok(arguments_at(alloc, ws)?.map(|list| Form::Barrier(list)));
+    }
+    if is_name(first) {
+        return Ok(arguments_at(alloc, ws)?.map(|list| Form::Apply(first.bytes, list)));
+    }
+    Ok(None)
+}
+
+// The form of a statement, if it has one.
+#[tactic(auto, unfolding(crate::specs::Parse::form_of, crate::specs::Parse::form_in))]
+pub(crate) fn form_of<'a>(
+    alloc: Global,
+    statement: &[Lexeme<'a>],
+) -> Result<Option<Form<'a>>, AllocError>
+    ensures { IfOk result (λ o. option_map form o ≡ form_of (lexemes statement.now)) }
+{
+    let Some(body) = body_of(statement) else {
+        return Ok(None);
+    };
+    match body.split_first() {
+        Some((first, rest)) => form_behind(alloc, first, rest),
+        None => Ok(None),
+    }
+}

@@ -1,0 +1,30 @@
+//! Reads a text of OpenQASM 2.0 (Cross, Bishop, Smolin and Gambetta, 2017) as a circuit.
+//!
+//! A text is the header `OPENQASM 2.0;` and statements, each up to its `;`: an include of `qelib1.inc`, a register of qubits or of
+//! bits, a barrier, or a known gate on arguments. [`read`] gives the circuit of all its gates, or the number of the first reason
+//! for which the text is refused, with its place. [`one_reading`] says that each text has exactly one of the two.
+//!
+//! The reader is more lenient than the standard: gate names are known without the include, which may stand anywhere and more than
+//! once; names of gates and of registers are apart; a number may have leading zeros; a barrier may name an argument twice.
+#![tactic(auto)]
+
+mod circuits;
+mod declare;
+mod expand;
+mod fault;
+mod finding;
+mod forms;
+mod gates;
+mod laws;
+mod lexemes;
+mod reading;
+mod refusal;
+mod rows;
+mod scan;
+
+pub use fault::ReadFault;
+pub use laws::one_reading;
+pub use reading::read;
+
+#[cfg(test)]
+mod tests;

@@ -1,0 +1,42 @@
+// The reasons for which a text is refused.
+
+// Why a text is refused; the number of a reason is its discriminant.
+#[derive(Clone, Copy)]
+pub(crate) enum Refusal {
+    // The text doesn't begin with the header.
+    Header = 1,
+    // A byte is neither skipped nor in a token.
+    BadByte = 2,
+    // The statement has no `;` or no form, or a gate has another number of arguments than it takes.
+    Statement = 3,
+    // The gate isn't known.
+    UnknownGate = 4,
+    // An argument is of no register of qubits.
+    UnknownRegister = 5,
+    // A size is 0, or an index isn't below its register's size.
+    Index = 6,
+    // A gate names one qubit twice.
+    SameQubit = 7,
+    // There are more than three qubits, or none.
+    Qubits = 8,
+    // There are more than 44 T gates.
+    TooManyT = 9,
+    // There are more than 4,096 statements.
+    TooLong = 10,
+    // A statement of OpenQASM 2.0 that this reader leaves out.
+    NotInProfile = 11,
+    // A register's name was declared before, or qubits are declared behind a gate.
+    TwoNames = 12,
+}
+
+impl Refusal {
+    ghost use Rattle.std.specs.Prelude.{◌≡◌};
+    ghost use Rattle.qasm_reader.specs.Refusals.{number_of};
+
+    // The number of the reason, 1 to 12.
+    pub(crate) fn number(self) -> u8
+        ensures { result ≡ number_of self }
+    {
+        self as u8
+    }
+}

@@ -1,0 +1,39 @@
+// What the statements so far say.
+ghost use Rattle.std.specs.Prelude.{◌≡◌, ◌+◌, ◌≤◌, ◌&&◌, IsTrue, nat_lt, nat_le};
+ghost use Rattle.std.specs.List.{list_all};
+ghost use Rattle.std.specs.Option.{ForSome, ForNone};
+ghost use Rattle.tc_circuit.specs.Model.{t_count_of};
+ghost use Rattle.qasm_reader.specs.Limits.{most_qubits, most_t_gates, most_statements};
+
+use tc_circuit::Circuit;
+
+pub(crate) const MOST_QUBITS: u8 = 3;
+pub(crate) const MOST_T_GATES: usize = 44;
+pub(crate) const MOST_STATEMENTS: usize = 4096;
+
+// A register of qubits: its first qubit, and how many it has.
+#[derive(Clone, Copy)]
+pub(crate) struct Register<'a> {
+    pub name: &'a [u8],
+    pub first: u8,
+    pub size: u8,
+    ghost small: { first + size ≤ most_qubits },
+}
+
+// There is a circuit once a gate was applied; its gates are those of the statements so far, and `t_count` counts their T gates.
+#[derive(Drop)]
+pub(crate) struct Scan<'a> {
+    pub registers: Vec<Register<'a>>,
+    pub names: Vec<&'a [u8]>,
+    pub qubits: u8,
+    pub circuit: Option<Circuit>,
+    pub t_count: usize,
+    pub count: usize,
+    ghost few: { qubits ≤ most_qubits },
+    ghost inside: { IsTrue (list_all (λ r. nat_lt 0 r.size && nat_le (r.first + r.size) qubits) registers.items) },
+    ghost on_all: { ForSome circuit (λ c. c.qubits ≡ qubits) },
+    ghost t_is: { ForSome circuit (λ c. t_count ≡ t_count_of c.gates) },
+    ghost t_none: { ForNone circuit (t_count ≡ 0) },
+    ghost t_few: { t_count ≤ most_t_gates },
+    ghost short: { count ≤ most_statements },
+}

@@ -1,0 +1,1 @@
+// Texts with what they read as.
