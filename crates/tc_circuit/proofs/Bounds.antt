@@ -3,7 +3,7 @@ use Rattle.std.proofs.Common.{◌≡◌, ℕ, ◌+◌, ◌*◌, ◌^◌, ◌<◌
 use Rattle.std.proofs.Math.Nat.{pow-suc, pow-le-pow_right}
 use Rattle.std.specs.Prelude.{if◌then◌else◌, length, List}
 use Rattle.std.proofs.lemmas.Int.{ints}
-use Rattle.ring_laws.specs.Cyclotomic.{Zω, integer, plus, times, negative, cyclotomics, ω, zero_number, one_number}
+use Rattle.ring_laws.specs.Cyclotomic.{Zω, integer, times, negative, cyclotomics, ω, zero_number, one_number}
 use Rattle.ring_laws.specs.Ring.{power}
 use Rattle.tc_ring.specs.Bounds.{IsWithin}
 use Rattle.ring_laws.proofs.Cyclotomic.{one-times, negative_one-times}

@@ -2,7 +2,7 @@
 use Rattle.std.proofs.Common.{◌≡◌, ◌≢◌, ℕ, ◌^◌, ◌<◌, ◌≤◌, ◌==◌, true, false, refl, ap, sym, ◌∙◌, arith, inl, inr}
 use Rattle.std.specs.Prelude.{if◌then◌else◌}
 use Rattle.std.proofs.lemmas.Bool.{cases_Bool, cond-true, cond-false, ne_eqb, eq-eqb}
-use Rattle.ring_laws.specs.Cyclotomic.{Zω, plus, times, negative, cyclotomics, ω, zero_number, one_number}
+use Rattle.ring_laws.specs.Cyclotomic.{plus, times, negative, cyclotomics, ω, zero_number, one_number}
 use Rattle.ring_laws.specs.Ring.{power}
 use Rattle.ring_laws.proofs.Cyclotomic.{cyclotomics_laws, zero-times, one-times}
 use Rattle.tc_circuit.specs.Gate.{Table, h_entry, diagonal_entry, cx_entry}

@@ -1,12 +1,12 @@
 -- Being the same up to a phase is an equivalence, which gates keep.
-use Rattle.std.proofs.Common.{◌≡◌, ℕ, zero, suc, ◌+◌, ◌-◌, ◌^◌, ◌<◌, ◌≤◌, refl, ap, sym, subst, ◌∙◌, arith, List, [], ◌∷◌, ◌++◌, inl, inr, ◌⊎◌}
+use Rattle.std.proofs.Common.{◌≡◌, ℕ, ◌+◌, ◌-◌, ◌^◌, ◌<◌, ◌≤◌, refl, ap, sym, subst, ◌∙◌, arith, List, [], ◌∷◌, ◌++◌, inl, inr}
 use Rattle.std.proofs.lemmas.Bool.{cases_lt}
 use Rattle.ring_laws.specs.Ring.{power}
 use Rattle.ring_laws.specs.Matrix.{sum, product}
 use Rattle.ring_laws.specs.Cyclotomic.{Zω, cyclotomics, times, ω, root2, one_number}
 use Rattle.ring_laws.proofs.Ring.{power-zero, power-add}
 use Rattle.ring_laws.proofs.Sums.{sum_cong, mul-sum}
-use Rattle.ring_laws.proofs.Cyclotomic.{cyclotomics_laws, times_comm, times_assoc, times_left_comm, one-times, ω-eighth, ω-turns, cancel_root2}
+use Rattle.ring_laws.proofs.Cyclotomic.{cyclotomics_laws, times_assoc, times_left_comm, one-times, ω-eighth, ω-turns, cancel_root2}
 use Rattle.tc_circuit.specs.Gate.{gate_table, gate_exponent}
 use Rattle.tc_circuit.specs.Model.{ScaledMatrix, after, matrix_of, SameUpTo, Same}
 use Rattle.tc_circuit.specs.declared.circuit.Gate.{Gate}

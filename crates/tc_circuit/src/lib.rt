@@ -4,6 +4,8 @@
 
 pub mod circuit;
 pub mod matrix;
+#[cfg(test)]
+mod tests;
 
 pub use circuit::{Circuit, Gate};
 pub use matrix::Matrix;

@@ -1,5 +1,5 @@
 -- How far the operations let coordinates grow.
-use Rattle.std.proofs.Common.{◌≡◌, ◌≤◌, ℕ, zero, suc, ◌<◌, ◌+◌, ◌*◌, sym, subst, arith}
+use Rattle.std.proofs.Common.{◌≤◌, ℕ, zero, suc, ◌+◌, ◌*◌, sym, subst, arith}
 use Rattle.std.proofs.lemmas.Int.{ints}
 use Rattle.ring_laws.specs.Ring.{power}
 use Rattle.ring_laws.specs.Cyclotomic.{Zω, plus, negative, times, cyclotomics, ω, root2}

@@ -1,11 +1,10 @@
 -- The product with a power of ω, coordinate by coordinate.
 use Rattle.std.proofs.Common.{◌≡◌, ℕ, ap, sym, ◌∙◌, arith}
-use Rattle.std.specs.Prelude.{pos, neg_ℤ}
+use Rattle.std.specs.Prelude.{neg_ℤ}
 use Rattle.std.proofs.lemmas.Int.{ints}
 use Rattle.ring_laws.specs.Ring.{power}
 use Rattle.ring_laws.specs.Cyclotomic.{Zω, number, integer, times, cyclotomics, ω}
-use Rattle.ring_laws.proofs.Ring.{power-zero}
-use Rattle.ring_laws.proofs.Cyclotomic.{coordinatewise, cyclotomics_laws, times_assoc}
+use Rattle.ring_laws.proofs.Cyclotomic.{coordinatewise, times_assoc}
 
 -- the product with ω
 pub turn : (a : Zω) → times ω a ≡ number (neg_ℤ a.x3) a.x0 a.x1 a.x2

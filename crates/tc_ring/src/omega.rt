@@ -87,3 +87,32 @@ impl Omega {
         }
     }
 }
+
+#[cfg(test)]
+mod tests {
+    use super::*;
+
+    #[test]
+    fn operations(rt: HostRuntime) {
+        let a = Omega { x: [1, -2, 3, 4] };
+        let b = Omega { x: [5, 6, -7, 8] };
+        let cases = [
+            (a.add(b), [6, 4, -4, 12]),
+            (a.sub(b), [-4, -8, 10, -4]),
+            (a.neg(), [-1, 2, -3, -4]),
+            (a.times_omega(0), [1, -2, 3, 4]),
+            (a.times_omega(1), [-4, 1, -2, 3]),
+            (a.times_omega(2), [-3, -4, 1, -2]),
+            (a.times_omega(3), [2, -3, -4, 1]),
+            (a.times_omega(4), [-1, 2, -3, -4]),
+            (a.times_omega(5), [4, -1, 2, -3]),
+            (a.times_omega(6), [3, 4, -1, 2]),
+            (a.times_omega(7), [-2, 3, 4, -1]),
+            (a.times_root2(), [-6, 4, 2, 2]),
+            (Omega { x: [-6, 4, 2, 2] }.times_root2(), [2, -4, 6, 8]),
+        ];
+        for (number, want) in cases {
+            assert_eq!(rt; number.x, want);
+        }
+    }
+}

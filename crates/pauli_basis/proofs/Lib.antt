@@ -1,0 +1,5 @@
+pub mod Small
+pub mod Letters
+pub mod Products
+pub mod Masks
+pub mod Text
