@@ -1,58 +1,32 @@
 -- What writing an outcome makes of a run.
-use Rattle.std.proofs.Common.{◌≡◌, ◌≢◌, ℕ, ◌<◌, ◌≤◌, List, [], ◌++◌, length, arith, sym, ap, ◌∙◌, subst, inl, inr, None, Some, refl, Bool, true, false}
+use Rattle.std.proofs.Common.{◌≡◌, ℕ, ◌<◌, List, [], ◌++◌, length, arith, sym, ap, ◌∙◌, subst, inl, inr, None, Some, Bool, true, false}
 use Rattle.std.specs.Prelude.{codes}
 use Rattle.std.specs.declared.option.Option.{Option}
 use Rattle.std.proofs.lemmas.List.{length-append, append-nil}
-use Rattle.tc_io.specs.Fault.{Rose}
 use Rattle.tc_io.specs.Stream.{ReadsAll, TakesFront}
 use Rattle.tcount_top.specs.Words.{IsCommand, usage_line}
 use Rattle.tcount_top.specs.Out.{Out, IsDue, usage, too_long, refused, not_yet, found, above}
-use Rattle.tcount_top.specs.Run.{Answers, Responds, TakesText, OnContent, WritesOutcome, WritesPart, IsOutcome}
+use Rattle.tcount_top.specs.Run.{Answers, Responds, TakesText, OnContent, IsOutcome}
 use Rattle.tcount_top.specs.declared.top.Status.{Status}
-use Rattle.tcount_top.specs.declared.top.Status.TheVariants.{Found, Above, Refused, Usage, ReadFault, WriteFault, NoMemory}
+use Rattle.tcount_top.specs.declared.top.Status.TheVariants.{Refused, Usage, ReadFault, WriteFault, NoMemory}
 
+-- a weaker claim on the content
 on_content : (left : Option (List ℕ)) (P Q : List ℕ → Type 0) → ((text : List ℕ) → P text → Q text) → OnContent left P → OnContent left Q
 on_content None P Q f h = (h.0, f h.0 h.1)
 on_content (Some text) P Q f h = f text h
 
+-- what would make a test true, where the test is false
 pub refuted : (b : Bool) (P : Type 0) → (P → b ≡ true) → b ≡ false → P → ⊥
 refuted b P h e p = let t = h p in cc
-
-not_memory : (s : Status) → IsOutcome s → s ≢ NoMemory
-not_memory Found h e = cc
-not_memory Above h e = cc
-not_memory Refused h e = cc
-not_memory Usage h e = cc
-not_memory ReadFault h e = absurd h
-not_memory WriteFault h e = absurd h
-not_memory NoMemory h e = absurd h
-
-not_read : (s : Status) → IsOutcome s → s ≢ ReadFault
-not_read Found h e = cc
-not_read Above h e = cc
-not_read Refused h e = cc
-not_read Usage h e = cc
-not_read ReadFault h e = absurd h
-not_read WriteFault h e = absurd h
-not_read NoMemory h e = absurd h
-
-not_write : (s : Status) → IsOutcome s → s ≢ WriteFault
-not_write Found h e = cc
-not_write Above h e = cc
-not_write Refused h e = cc
-not_write Usage h e = cc
-not_write ReadFault h e = absurd h
-not_write WriteFault h e = absurd h
-not_write NoMemory h e = absurd h
 
 -- an outcome that was handed to the sink
 pub responded : (words : List (List ℕ)) (left left' : Option (List ℕ)) (reads reads' : ℕ) (written written' : Option (List ℕ)) (writes writes' : ℕ) (wanted status : Status) (bytes : List ℕ)
     → IsOutcome wanted → OnContent left (λ text. Out words text wanted bytes) → (IsCommand words → OnContent left (TakesText left left'))
     → Responds written written' writes writes' bytes wanted status → Answers words left left' reads reads' written written' writes writes' status
 responded words left left' reads reads' written written' writes writes' wanted status bytes is out taken (inl h) = record {
-  no_memory = λ e. absurd (not_memory wanted is (sym h.0 ∙ e));
-  read_fault = λ e. absurd (not_read wanted is (sym h.0 ∙ e));
-  write_fault = λ e. absurd (not_write wanted is (sym h.0 ∙ e));
+  no_memory = λ e. absurd (subst IsOutcome (sym h.0 ∙ e) is);
+  read_fault = λ e. absurd (subst IsOutcome (sym h.0 ∙ e) is);
+  write_fault = λ e. absurd (subst IsOutcome (sym h.0 ∙ e) is);
   outcome = λ _. on_content left (λ text. Out words text wanted bytes) _ (λ text o. (bytes, subst (λ (s : Status). Out words text s bytes) (sym h.0) o, h.1)) out;
   taken = λ command a b. taken command;
 }
@@ -72,6 +46,7 @@ content_read (Some text) None bytes Q h q = absurd h.gone
 content_read (Some text) (Some rest) bytes Q h q =
     let same : bytes ≡ text = sym (h.gone ∙ ap (λ (l : List ℕ). bytes ++ l) h.ended ∙ append-nil bytes) in subst Q same q
 
+-- a text that was read to its end is taken whole
 pub text_taken : (left left' : Option (List ℕ)) (bytes : List ℕ) → ReadsAll 65536 left left' bytes → OnContent left (TakesText left left')
 text_taken left left' bytes h = content_read left left' bytes (TakesText left left') h (record { whole = λ _. h; front = λ long. absurd (omega (arith, h.short)) })
 
@@ -81,16 +56,20 @@ content_past None left' Q h q = (h.taken, q h.taken (omega (arith, h.exact)))
 content_past (Some text) None Q h q = absurd h.gone
 content_past (Some text) (Some rest) Q h q = q text (omega (arith, ap length h.gone, length-append h.taken rest, h.exact))
 
+-- a text of which 65,537 bytes were taken has that front taken
 pub past_taken : (left left' : Option (List ℕ)) → TakesFront 65537 left left' → OnContent left (TakesText left left')
 past_taken left left' h = content_past left left' (TakesText left left') h (λ text long. record { whole = λ short. absurd (omega arith); front = λ _. h })
 
+-- the outcome for a text of which 65,537 bytes were taken
 pub past_out : (words : List (List ℕ)) (left left' : Option (List ℕ)) → IsCommand words → TakesFront 65537 left left' → OnContent left (λ text. Out words text Refused (codes "refused 14\n"))
 past_out words left left' command h = content_past left left' _ h (λ text long. too_long command long)
 
+-- the outcome for words that are no command
 pub usage_out : (words : List (List ℕ)) (left : Option (List ℕ)) → (IsCommand words → ⊥) → OnContent left (λ text. Out words text Usage usage_line)
 usage_out words None none = ([], usage none)
 usage_out words (Some text) none = usage none
 
+-- no outcome is want of memory or a fault
 due_is_outcome : (words : List (List ℕ)) (text : List ℕ) (status : Status) (bytes : List ℕ) → Out words text status bytes → IsOutcome status
 due_is_outcome words text status bytes (usage none) = tt
 due_is_outcome words text status bytes (too_long c l) = tt
@@ -106,12 +85,3 @@ pub responded_due : (words : List (List ℕ)) (left left' : Option (List ℕ)) (
 responded_due words left left' reads reads' written written' writes writes' wanted status text bytes command all due response =
     let out = due words command all.short in
     responded words left left' reads reads' written written' writes writes' wanted status bytes (due_is_outcome words text wanted bytes out) (content_read left left' text _ all out) (λ _. text_taken left left' text all) response
-
--- a status of a run over a command isn't usage
-pub not_usage : (words : List (List ℕ)) (text : List ℕ) (status : Status) (bytes : List ℕ) → IsCommand words → Out words text status bytes → status ≡ Usage → ⊥
-not_usage words text status bytes command (usage none) e = none command
-not_usage words text status bytes command (too_long c l) e = cc
-not_usage words text status bytes command (refused c l number place r) e = cc
-not_usage words text status bytes command (not_yet c l x r other) e = cc
-not_usage words text status bytes command (found c l x d letters r answered best low word) e = cc
-not_usage words text status bytes command (above c l x r answered h) e = cc

@@ -12,7 +12,7 @@ use Rattle.tcount_top.specs.Shown.{IsLetter, IsWord, shown, refusal_line}
 use Rattle.tcount_top.specs.Rests.{rest_at}
 use Rattle.tcount_top.specs.Out.{Out, IsAnswered, IsDue, IsDueFor, IsAbove, IsOptimal, refused, not_yet, found, above}
 use Rattle.tcount_top.specs.declared.top.Status.TheVariants.{Found, Above, Refused}
-use Rattle.tcount_top.proofs.Closed.{is_rest, IsRest}
+use Rattle.tcount_top.proofs.Closed.{is_rest}
 
 -- a circuit that is the same as none of the 24 has a T gate, and so has each that is the same
 is_above : (c : List Gate) → ((i : ℕ) → i < 24 → Same 1 c (rest_at i) → ⊥) → IsAbove (record { qubits = 1; gates = c }) 0
@@ -42,6 +42,7 @@ due_above c bytes answered none e text reads words command short =
     let over = on_one (λ (c : Gates). ((i : ℕ) → i < 24 → Same 1 c.gates (rest_at i) → ⊥) → IsAbove c 0) is_above c answered.0 none in
     subst (λ (b : List ℕ). Out words text Above b) (sym e) (above command short c reads answered over)
 
+-- the empty word
 no_letters : (n t : ℕ) → t ≡ 0 → IsWord n t []
 no_letters n t e = (sym e, All-nil (λ (letter : List ℕ). IsLetter n letter))
 

@@ -1,5 +1,5 @@
 -- The print of a circuit without T gates on one qubit.
-use Rattle.std.proofs.Common.{◌≡◌, ℕ, ◌<◌, ◌≤◌, refl, ap, sym, subst, ◌∙◌, arith, List, [], ◌∷◌, ◌++◌, length, take}
+use Rattle.std.proofs.Common.{◌≡◌, ℕ, ◌≤◌, refl, ap, sym, ◌∙◌, arith, List, [], ◌∷◌, ◌++◌, length, take}
 use Rattle.std.specs.Prelude.{codes, decimal}
 use Rattle.std.specs.Fmt.{digits}
 use Rattle.std.specs.List.{flat_map}
@@ -16,6 +16,7 @@ line_at_zero G line g q below first is fits =
     let zero_is : 0 ≡ q = omega arith in
     sym first ∙ ap (λ (k : ℕ). gate_line (G k)) zero_is ∙ ap gate_line (sym is)
 
+-- the head of the print at T-count 0 and the empty word
 shown_start : (gates : List Gate) → t_count_of gates ≡ 0 → codes "// t-count 0\n// word\nOPENQASM 2.0;\ninclude \"qelib1.inc\";\nqreg q[1];\n" ++ flat_map gate_line gates ≡ shown 1 gates []
 unfolding shown digits
 shown_start gates e =

@@ -1,5 +1,5 @@
--- A number that is multiplied by √2 time after time, and a matrix that takes gate after gate.
-use Rattle.std.proofs.Common.{◌≡◌, ℕ, zero, suc, ◌+◌, ◌*◌, ◌/◌, ◌%◌, ◌^◌, ◌<◌, ◌≤◌, cond, refl, ap, sym, subst, ◌∙◌, arith, List, [], ◌∷◌, ◌++◌, length, take, get_or, add-one, pos}
+-- A number that is multiplied by 2 and by √2, time after time, and a matrix that takes gate after gate.
+use Rattle.std.proofs.Common.{◌≡◌, ℕ, ◌+◌, ◌*◌, ◌/◌, ◌%◌, ◌^◌, ◌<◌, ◌≤◌, cond, refl, ap, sym, subst, ◌∙◌, arith, List, [], ◌∷◌, ◌++◌, length, take, get_or, add-one, pos}
 use Rattle.std.proofs.Math.Nat.{pow-suc, pow-le-pow_right}
 use Rattle.std.proofs.lemmas.List.Sums.{sum_by_more, sum_by_more_le}
 use Rattle.ring_laws.specs.Ring.{power}
@@ -10,9 +10,9 @@ use Rattle.ring_laws.proofs.Sums.{product-Agree}
 use Rattle.ring_laws.proofs.Cyclotomic.{cyclotomics_laws, times_assoc, one-times, plus-times, integer-plus, root2-root2}
 use Rattle.tc_ring.specs.Bounds.{IsWithin}
 use Rattle.tc_ring.proofs.Bounds.{within_more}
-use Rattle.tc_circuit.specs.Gate.{gate_table, gate_exponent, Fits, is_h}
+use Rattle.tc_circuit.specs.Gate.{gate_table, gate_exponent, is_h}
 use Rattle.tc_circuit.specs.Grid.{Grid, table_of, scaled}
-use Rattle.tc_circuit.specs.Model.{ScaledMatrix, IsCircuit, matrix_of, SameUpTo, Same, h_count_of}
+use Rattle.tc_circuit.specs.Model.{ScaledMatrix, matrix_of, SameUpTo, Same, h_count_of}
 use Rattle.tc_circuit.specs.declared.circuit.Gate.{Gate}
 use Rattle.tc_circuit.specs.declared.circuit.Gate.TheVariants.{H, S, Sdg, T, Tdg, Cx}
 use Rattle.tc_circuit.proofs.Same.{after-append}
@@ -28,6 +28,7 @@ raised_more k x y a e h =
     e ∙ ap (times root2) h ∙ sym (times_assoc root2 (power cyclotomics root2 k) a)
     ∙ ap (λ (p : Zω). times p a) (sym (power-suc cyclotomics_laws root2 k) ∙ ap (power cyclotomics root2) (sym (add-one k)))
 
+-- as many factors, counted otherwise
 raised_at : (j k : ℕ) (y a : Zω) → j ≡ k → y ≡ times (power cyclotomics root2 j) a → y ≡ times (power cyclotomics root2 k) a
 raised_at j k y a same h = subst (λ (i : ℕ). y ≡ times (power cyclotomics root2 i) a) same h
 
@@ -47,13 +48,16 @@ doubled_more k x y a e h =
 pub raised_odd : (count : ℕ) (x y a : Zω) → count % 2 ≡ 1 → y ≡ times root2 x → x ≡ times (power cyclotomics root2 (2 * (count / 2))) a → y ≡ times (power cyclotomics root2 count) a
 raised_odd count x y a odd e h = raised_at (2 * (count / 2) + 1) count y a (omega arith) (raised_more (2 * (count / 2)) x y a e h)
 
+-- how far it is bounded then
 pub within_doubled : (k : ℕ) (y : Zω) → IsWithin (2 ^ k + 2 ^ k) y → IsWithin (2 ^ (k + 1)) y
 within_doubled k y h = within_more _ _ y (omega (arith, pow-suc 2 k, ap (λ (n : ℕ). 2 ^ n) (add-one k))) h
 
+-- a bound by a greater power of two
 pub within_power : (j k : ℕ) (a : Zω) → j ≤ k → IsWithin (2 ^ j) a → IsWithin (2 ^ k) a
 within_power j k a l h = let two : 0 < 2 = omega arith in within_more _ _ a (pow-le-pow_right two l) h
 
 -- ---- the exponent of a matrix counts the h gates
+-- a gate adds one √2 where it is h
 exponent_counts : (g : Gate) → gate_exponent g ≡ cond (is_h g) 1 0
 exponent_counts (H q) = refl
 exponent_counts (S q) = refl
@@ -71,11 +75,6 @@ exponent_more gates i d j k l h e =
 pub exponent_room : (gates : List Gate) (i : ℕ) (d : Gate) (j most : ℕ) → i < length gates → j ≡ h_count_of (take i gates) → h_count_of gates ≤ most → gate_exponent (get_or gates i d) + j ≤ most
 exponent_room gates i d j most l h few =
     omega (arith, exponent_counts (get_or gates i d), sum_by_more_le (λ g. cond (is_h g) 1 0) gates i d l)
-
-pub circuit_at : (gates : List Gate) (i : ℕ) (d : Gate) → IsCircuit 1 gates → i < length gates → Fits 1 (get_or gates i d)
-circuit_at [] i d f l = absurd (omega arith)
-circuit_at (g ∷ gates) zero d f l = f.0
-circuit_at (g ∷ gates) (suc i) d f l = circuit_at gates i d f.1 (omega arith)
 
 -- a matrix of some gates, after one more
 pub matrix_more : (done : List Gate) (g : Gate) (m n : Grid) → IsMatrixOf done m → n.qubits ≡ m.qubits → n.exponent ≡ gate_exponent g + m.exponent
@@ -101,6 +100,7 @@ same_scaled j c d a b ha hb h = λ row k lr lk.
     ∙ ap (λ (e : ℕ). times (power cyclotomics root2 e) (times (power cyclotomics ω j) (table_of b row k))) ha.exponent
     ∙ ap (λ (w : Zω). times (power cyclotomics root2 (matrix_of 1 c).exponent) (times (power cyclotomics ω j) w)) (hb.entries row k lr lk)
 
+-- and the other way round
 scaled_same : (j : ℕ) (c d : List Gate) (a b : Grid) → IsMatrixOf c a → IsMatrixOf d b → SameUpTo (2 ^ 1) j (matrix_of 1 c) (matrix_of 1 d) → SameUpTo (2 ^ 1) j (scaled a) (scaled b)
 scaled_same j c d a b ha hb h = λ row k lr lk.
     ap (λ (e : ℕ). times (power cyclotomics root2 e) (table_of a row k)) hb.exponent

@@ -3,6 +3,7 @@ use Rattle.std.specs.Prelude.{ℕ}
 use Rattle.tcount_top.specs.declared.top.Status.{Status}
 use Rattle.tcount_top.specs.declared.top.Status.TheVariants.{Found, Above, Refused, Usage, ReadFault, WriteFault, NoMemory}
 
+-- the status that the program ends with
 abbrev pub code_of : Status → ℕ
 code_of Found = 0
 code_of Above = 1

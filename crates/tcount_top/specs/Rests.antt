@@ -17,6 +17,7 @@ third_pieces = [] ∷ (H 0 ∷ S 0 ∷ H 0 ∷ []) ∷ []
 abbrev pub last_pieces : List (List Gate)
 last_pieces = [] ∷ (H 0 ∷ []) ∷ (S 0 ∷ []) ∷ []
 
+-- the piece that a choice takes
 abbrev pub piece : List (List Gate) → ℕ → List Gate
 piece pieces choice = slice_index_or pieces choice []
 

@@ -22,7 +22,8 @@ pub record TakesText (left left' : Option (List ℕ)) (text : List ℕ) : Type 0
 
 -- the bytes of the outcome with this status were written, whole
 abbrev pub WritesOutcome : List (List ℕ) → List ℕ → Status → Option (List ℕ) → Option (List ℕ) → Type 0
-WritesOutcome words text status written written' = (bytes : List ℕ) × Out words text status bytes × Appends written written' bytes
+WritesOutcome words text status written written' =
+    (bytes : List ℕ) × Out words text status bytes × Appends written written' bytes
 
 -- a part of the bytes of an outcome was written, from their front
 abbrev pub WritesPart : List (List ℕ) → List ℕ → Option (List ℕ) → Option (List ℕ) → Type 0
@@ -39,8 +40,10 @@ IsOutcome ReadFault = ⊥
 IsOutcome WriteFault = ⊥
 IsOutcome NoMemory = ⊥
 
--- What a run answers: what the source tells before and after and its faults, the same of the sink, and the status.
-pub record Answers (words : List (List ℕ)) (left left' : Option (List ℕ)) (reads reads' : ℕ) (written written' : Option (List ℕ)) (writes writes' : ℕ) (status : Status) : Type 0 where
+-- what a run answers: of the words, of what the source tells before and after and its count of faults, of the same of the
+-- sink, and of the status
+pub record Answers (words : List (List ℕ)) (left left' : Option (List ℕ)) (reads reads' : ℕ)
+    (written written' : Option (List ℕ)) (writes writes' : ℕ) (status : Status) : Type 0 where
   -- memory is wanted only where the words are a command
   pub no_memory : status ≡ NoMemory → IsCommand words
   -- a fault of reading comes only where the source's count of faults rose

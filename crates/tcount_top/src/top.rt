@@ -55,7 +55,8 @@ const USAGE: &str = "usage: synth M W | check | levels N K W | bench N T SEED M 
 
 // Whether three words are those of the command.
 fn are_synth(command: &str, bound: &str, workers: &str) -> bool
-    ensures { IsTrue result ↔ ((command.now ≡ codes "synth") × (bound.now ≡ codes "0") × (workers.now ≡ codes "1")) }
+    ensures { IsTrue result
+        ↔ ((command.now ≡ codes "synth") × (bound.now ≡ codes "0") × (workers.now ≡ codes "1")) }
 {
     command == "synth" && bound == "0" && workers == "1"
 }
@@ -73,7 +74,8 @@ fn is_command(words: &[&str]) -> bool
 
 // Writes an outcome's bytes, and answers its status where the sink took them.
 fn respond<K: Sink>(sink: &mut K, text: &str, status: Status) -> Status
-    ensures responds { Responds (K.written sink.old) (K.written sink.new) (K.faults sink.old) (K.faults sink.new) text.now status result }
+    ensures responds { Responds (K.written sink.old) (K.written sink.new) (K.faults sink.old) (K.faults sink.new)
+        text.now status result }
     ensures later { K.faults sink.old ≤ K.faults sink.new }
 {
     match write_all(sink, text.as_bytes()) {
@@ -89,7 +91,8 @@ fn respond<K: Sink>(sink: &mut K, text: &str, status: Status) -> Status
 /// [`Status::ReadFault`] where a read failed, both before the first byte is written, and [`Status::WriteFault`] where a
 /// write failed, behind a part of the outcome's bytes. Words that are no command take no memory and read nothing.
 pub fn run<S: Source, K: Sink>(alloc: Global, words: &[&str], src: &mut S, sink: &mut K) -> Status
-    ensures answers { Answers (texts_of words.now) (S.left src.old) (S.left src.new) (S.faults src.old) (S.faults src.new)
+    ensures answers { Answers (texts_of words.now)
+        (S.left src.old) (S.left src.new) (S.faults src.old) (S.faults src.new)
         (K.written sink.old) (K.written sink.new) (K.faults sink.old) (K.faults sink.new) result }
 
     // Nothing was written before want of memory or a fault of reading.
@@ -99,7 +102,8 @@ pub fn run<S: Source, K: Sink>(alloc: Global, words: &[&str], src: &mut S, sink:
     // of the usage line, and leave the source as it was.
     ensures usage { result ≡ Status.Usage → IsCommand (texts_of words.now) → ⊥ }
     ensures no_command { (IsCommand (texts_of words.now) → ⊥)
-        → Responds (K.written sink.old) (K.written sink.new) (K.faults sink.old) (K.faults sink.new) usage_line Status.Usage result }
+        → Responds (K.written sink.old) (K.written sink.new) (K.faults sink.old) (K.faults sink.new)
+        usage_line Status.Usage result }
     ensures unread { (IsCommand (texts_of words.now) → ⊥) → src.new ≡ src.old }
 
     // The counts of faults never fall.

@@ -1,4 +1,4 @@
-use Rattle.std.proofs.Common.{◌≡◌, ℕ, List, sym, ap, subst, Err}
+use Rattle.std.proofs.Common.{ℕ, List, sym, ap, subst, Err}
 use Rattle.std.specs.Prelude.{string_bytes}
 use Rattle.tcount_top.specs.Words.{texts_of, IsCommand, usage_line}
 use Rattle.tcount_top.specs.Out.{IsDue}
