@@ -7,3 +7,4 @@ pub mod Registers
 pub mod Cut
 pub mod Takeable
 pub mod Outcomes
+pub mod Names

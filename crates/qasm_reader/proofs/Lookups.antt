@@ -12,6 +12,7 @@ use Rattle.qasm_reader.specs.Rows.{ends, has_twins}
 use Rattle.qasm_reader.specs.State.{value, find_register}
 use Rattle.qasm_reader.specs.View.{register, registers}
 
+-- a register of another name is passed over
 pub other_register : (rs : List CodeRegister) (i : ℕ) (r : CodeRegister) (name : List ℕ) → i < length rs → r ≡ get_or rs i r → bytes_eq r.name.now name ≡ false
     → find_register (registers (drop (i + 1) rs)) name ≡ find_register (registers (drop i rs)) name
 other_register rs i r name h is e =
@@ -19,6 +20,7 @@ other_register rs i r name h is e =
     ∙ ap (λ (x : CodeRegister). find_register (registers (x ∷ drop (i + 1) rs)) name) (sym is)
     ∙ ap (λ (t : Bool). cond t (Some (register r)) (find_register (registers (drop (i + 1) rs)) name)) e)
 
+-- a register of the name is found
 pub this_register : (rs : List CodeRegister) (i : ℕ) (r : CodeRegister) (name : List ℕ) → i < length rs → r ≡ get_or rs i r → bytes_eq r.name.now name ≡ true
     → Some (register r) ≡ find_register (registers (drop i rs)) name
 this_register rs i r name h is e =
@@ -26,21 +28,25 @@ this_register rs i r name h is e =
     ∙ ap (λ (x : CodeRegister). find_register (registers (x ∷ drop (i + 1) rs)) name) (sym is)
     ∙ ap (λ (t : Bool). cond t (Some (register r)) (find_register (registers (drop (i + 1) rs)) name)) e)
 
+-- one digit more
 pub next_value : (ds : List ℕ) (i n : ℕ) → i < length ds → n ≡ min (value (take i ds)) 4
     → min (n * 10 + (get_or ds i 0 - 48)) 4 ≡ min (value (take (i + 1) ds)) 4
 next_value ds i n h e =
     let v = fold_more (λ (n b : ℕ). n * 10 + (b - 48)) 0 ds i 0 h in
     omega (arith, e, v)
 
+-- one of the images passes where an element does
 pub list_any-map : {A B : Type 0} (p : B → Bool) (f : A → B) (xs : List A) → list_any p (map f xs) ≡ list_any (λ x. p (f x)) xs
 list_any-map p f [] = refl
 list_any-map p f (x ∷ xs) = ap (λ (t : Bool). p (f x) || t) (list_any-map p f xs)
 
+-- the last lexeme decides whether a statement has its end
 pub ends_push : (ws b : List Lexeme) (w : Lexeme) → ws ≡ b ++ w ∷ [] → ends ws ≡ is_kind Semi w
 ends_push ws [] w e = ap ends e
 ends_push ws (v ∷ []) w e = ap ends e
 ends_push ws (v ∷ u ∷ b) w e = ap ends e ∙ ends_push (u ∷ b ++ w ∷ []) (u ∷ b) w refl
 
+-- a range with one number more
 range_suc : (n : ℕ) (a : ℕ) → range_with_len a (suc n) ≡ range_with_len a n ++ (a + n) ∷ []
 range_suc zero a = ap (λ (x : ℕ). x ∷ []) (omega arith)
 range_suc (suc n) a =
@@ -48,9 +54,11 @@ range_suc (suc n) a =
     let same : a + 1 + n ≡ a + suc n = omega arith in
     ap (λ (l : List ℕ). a ∷ l) (more ∙ ap (λ (x : ℕ). range_with_len (a + 1) n ++ x ∷ []) same)
 
+-- a range with one number more, as the code counts it
 pub range_push : (a n : ℕ) → range_with_len a (n + 1) ≡ range_with_len a n ++ (a + n) ∷ []
 range_push a n = let more : n + 1 ≡ suc n = omega arith in ap (range_with_len a) more ∙ range_suc n a
 
+-- twins are of the first qubit, or of the others
 pub twins_next : (qs : List ℕ) (i : ℕ) (t : Bool) → i < length qs → t ≡ list_any (λ r. r == get_or qs i 0) (take (length qs - (i + 1)) (drop (i + 1) qs))
     → has_twins (drop i qs) ≡ (t || has_twins (drop (i + 1) qs))
 twins_next qs i t h e =

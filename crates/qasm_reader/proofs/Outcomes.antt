@@ -82,6 +82,7 @@ headed_is (a ∷ b ∷ c ∷ ws) rest e =
     let z = to_mark c Semi refl q.1 in
     (a ∷ b ∷ c ∷ [], ap (λ (l : List Lexeme). a ∷ b ∷ c ∷ l) t.1, cc (x, y, z))
 
+-- a header that is there is found
 pub is_headed : (ws rest : List Lexeme) → IsHeaded ws rest → headed_at ws ≡ Some rest
 unfolding headed_at
 is_headed ws rest ([], e, h) = absurd (cc)

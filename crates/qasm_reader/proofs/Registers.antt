@@ -11,6 +11,7 @@ use Rattle.qasm_reader.specs.View.{registers}
 abbrev pub is_inside : ℕ → CodeRegister → Bool
 is_inside n r = nat_lt 0 r.size && nat_le (r.first + r.size) n
 
+-- each register has a qubit, and lies below n
 abbrev pub Inside : ℕ → List Register → Type 0
 Inside n rs = AllByRecursion (λ r. (0 < r.size) × (r.first + r.size ≤ n)) rs
 

@@ -11,12 +11,15 @@ use Rattle.qasm_reader.specs.Lexemes.{Lexeme, is_kind}
 use Rattle.qasm_reader.specs.Forms.{Argument}
 use Rattle.qasm_reader.specs.Parse.{argument_at, consed, all_some, arguments_at}
 
+-- an element that passes is the first to pass
 pub position_yes : {A : Type 0} (p : A → Bool) (x : A) (xs : List A) → p x ≡ true → position_or_len p (x ∷ xs) ≡ 0
 position_yes p x xs e = ap (λ (t : Bool). cond (not t) (1 + position_or_len p xs) 0) e
 
+-- an element that fails stands before the first to pass
 pub position_no : {A : Type 0} (p : A → Bool) (x : A) (xs : List A) → p x ≡ false → position_or_len p (x ∷ xs) ≡ suc (position_or_len p xs)
 position_no p x xs e = ap (λ (t : Bool). cond (not t) (1 + position_or_len p xs) 0) e ∙ omega arith
 
+-- a run of images is a run
 pub prefix_len-map : {A B : Type 0} (p : B → Bool) (f : A → B) (xs : List A) → prefix_len p (map f xs) ≡ prefix_len (λ x. p (f x)) xs
 prefix_len-map p f [] = refl
 prefix_len-map p f (x ∷ xs) = ap (λ (n : ℕ). cond (p (f x)) (1 + n) 0) (prefix_len-map p f xs)
@@ -33,6 +36,7 @@ part_last p (x ∷ xs) e =
     slice_split-cons_no p x xs t ∙ ap (onto_first x) more ∙ ap (λ (n : ℕ). take n (x ∷ xs) ∷ []) (sym n))
     (cases_Bool (p x))
 
+-- a part before another
 pub part_next : {A : Type 0} (p : A → Bool) (xs : List A) (w : A) (ys : List A) → drop (position_or_len p xs) xs ≡ w ∷ ys
     → slice_split p xs ≡ take (position_or_len p xs) xs ∷ slice_split p ys
 part_next p [] w ys e = absurd (cc)
@@ -53,10 +57,12 @@ abbrev pub with_front : {A : Type 0} → List A → Option (List A) → Option (
 with_front front None = None
 with_front front (Some xs) = Some (front ++ xs)
 
+-- one value more is read
 pub with_more : {A : Type 0} (front : List A) (x : A) (o : Option (List A)) → with_front front (consed (Some x) o) ≡ with_front (front ++ x ∷ []) o
 with_more front x None = refl
 with_more front x (Some xs) = ap (λ (l : List _). Some l) (sym (append_assoc front (x ∷ []) xs))
 
+-- nothing is read yet
 pub with_nothing : {A : Type 0} (o : Option (List A)) → with_front [] o ≡ o
 with_nothing None = refl
 with_nothing (Some xs) = refl
@@ -68,6 +74,7 @@ pub record FirstPart (all part more : List Lexeme) : Type 0 where
   pub front : part ≡ take size all
   pub rest : more ≡ drop size all
 
+-- the first part and the rest are the parts
 split_of : (all part more : List Lexeme) → FirstPart all part more
     → (more ≡ [] → slice_split (is_kind Comma) all ≡ part ∷ []) × ((w : Lexeme) (ys : List Lexeme) → more ≡ w ∷ ys → slice_split (is_kind Comma) all ≡ part ∷ slice_split (is_kind Comma) ys)
 split_of all part more f =
@@ -77,6 +84,7 @@ split_of all part more f =
       λ w ys e. part_next (is_kind Comma) all w ys (rest ∙ e) ∙ ap (λ (l : List Lexeme). l ∷ slice_split (is_kind Comma) ys) front,
     )
 
+-- where the first part is no argument there are none
 pub none_read : (all part more : List Lexeme) → FirstPart all part more → argument_at part ≡ None → arguments_at all ≡ None
 unfolding arguments_at
 none_read all part [] f e =
@@ -84,11 +92,13 @@ none_read all part [] f e =
 none_read all part (w ∷ ys) f e =
     ap (λ (l : List (List Lexeme)). all_some (map argument_at l)) ((split_of all part (w ∷ ys) f).1 w ys refl) ∙ ap (λ (o : Option Argument). consed o (all_some (map argument_at (slice_split (is_kind Comma) ys)))) e
 
+-- where there is no other part the first is all
 pub last_read : (all part more : List Lexeme) (a : Argument) → FirstPart all part more → more ≡ [] → argument_at part ≡ Some a → arguments_at all ≡ Some (a ∷ [])
 unfolding arguments_at
 last_read all part more a f m e =
     ap (λ (l : List (List Lexeme)). all_some (map argument_at l)) ((split_of all part more f).0 m) ∙ ap (λ (o : Option Argument). consed o (Some [])) e
 
+-- behind the first part the rest is read
 pub next_read : (all part more : List Lexeme) (a : Argument) → FirstPart all part more → (more ≡ [] → ⊥) → argument_at part ≡ Some a → arguments_at all ≡ consed (Some a) (arguments_at (drop 1 more))
 unfolding arguments_at
 next_read all part [] a f m e = absurd (m refl)

@@ -66,6 +66,7 @@ fits k (T a) = nat_lt a k
 fits k (Tdg a) = nat_lt a k
 fits k (Cx a b) = nat_lt a k && (nat_lt b k && not (a == b))
 
+-- a gate that passes the test fits
 fits_is : (k : ℕ) (g : Gate) → fits k g ≡ true → Fits k g
 unfolding fits
 fits_is k (H a) e = ltb-true _ _ e
@@ -78,13 +79,16 @@ fits_is k (Cx a b) e =
     let q = and_parts (nat_lt b k) _ p.1 in
     (ltb-true _ _ p.0, ltb-true _ _ q.0, eqb-false _ _ (not-true _ q.1))
 
+-- gates that pass the test are a circuit
 all_fit : (k : ℕ) (gs : List Gate) → list_all (fits k) gs ≡ true → IsCircuit k gs
 all_fit k [] e = tt
 all_fit k (g ∷ gs) e = let p = and_parts (fits k g) _ e in (fits_is k g p.0, all_fit k gs p.1)
 
+-- whether a gate of the table takes an argument, and its gates fit its arguments
 is_sound : Known → Bool
 is_sound g = nat_lt 0 g.arity && list_all (fits g.arity) g.gates
 
+-- what the table holds is sound
 look_up_is : (es : List (List ℕ × Known)) (name : List ℕ) (g : Known) → list_all (λ e. is_sound e.1) es ≡ true → look_up es name ≡ Some g → is_sound g ≡ true
 look_up_is [] name g e f = absurd (cc)
 look_up_is (x ∷ xs) name g e f =
@@ -94,6 +98,7 @@ look_up_is (x ∷ xs) name g e f =
     (λ (t : bytes_eq name x.0 ≡ false). look_up_is xs name g p.1 (sym (ap (λ (b : Bool). cond b (Some x.1) (look_up xs name)) t) ∙ f))
     (cases_Bool (bytes_eq name x.0))
 
+-- a known gate takes an argument, and its gates fit its arguments
 known_is : (name : List ℕ) (g : Known) → known name ≡ Some g → (0 < g.arity) × IsCircuit g.arity g.gates
 unfolding known is_sound fits
 known_is name g e =
@@ -101,23 +106,28 @@ known_is name g e =
     let p = and_parts (nat_lt 0 g.arity) _ s in
     (ltb-true _ _ p.0, all_fit g.arity g.gates p.1)
 
+-- the qubits are below n
 abbrev Below : ℕ → List ℕ → Type 0
 Below n qs = AllByRecursion (λ q. q < n) qs
 
+-- each of them is
 below_at : (n : ℕ) (qs : List ℕ) (i : ℕ) → Below n qs → i < length qs → get_or qs i 0 < n
 below_at n [] i b h = absurd (omega arith)
 below_at n (q ∷ qs) zero b h = b.0
 below_at n (q ∷ qs) (suc i) b h = below_at n qs i b.1 (omega arith)
 
+-- where a disjunction fails both parts do
 or_false : (x y : Bool) → (x || y) ≡ false → (x ≡ false) × (y ≡ false)
 or_false true y e = absurd (cc)
 or_false false y e = (refl, e)
 
+-- a qubit without a twin is none of the others
 no_twin : (q : ℕ) (qs : List ℕ) (j : ℕ) → list_any (λ r. r == q) qs ≡ false → j < length qs → get_or qs j 0 ≢ q
 no_twin q [] j e h = absurd (omega arith)
 no_twin q (r ∷ rs) zero e h = eqb-false _ _ (or_false (r == q) _ e).0
 no_twin q (r ∷ rs) (suc j) e h = no_twin q rs j (or_false (r == q) _ e).1 (omega arith)
 
+-- qubits without twins differ
 apart : (qs : List ℕ) (i j : ℕ) → has_twins qs ≡ false → i < length qs → j < length qs → i ≢ j → get_or qs i 0 ≢ get_or qs j 0
 apart [] i j e h k n = absurd (omega arith)
 apart (q ∷ qs) zero zero e h k n = absurd (n refl)
@@ -125,6 +135,7 @@ apart (q ∷ qs) zero (suc j) e h k n = λ same. no_twin q qs j (or_false _ _ e)
 apart (q ∷ qs) (suc i) zero e h k n = no_twin q qs i (or_false _ _ e).0 (omega arith)
 apart (q ∷ qs) (suc i) (suc j) e h k n = apart qs i j (or_false _ _ e).1 (omega arith) (omega arith) (λ s. n (ap (λ (x : ℕ). suc x) s))
 
+-- a gate of the arguments fits the qubits in their place
 placed_fits : (n : ℕ) (qs : List ℕ) (g : Gate) → Below n qs → has_twins qs ≡ false → Fits (length qs) g → Fits n (placed qs g)
 placed_fits n qs (H a) b t f = below_at n qs a b f
 placed_fits n qs (S a) b t f = below_at n qs a b f
@@ -133,26 +144,32 @@ placed_fits n qs (T a) b t f = below_at n qs a b f
 placed_fits n qs (Tdg a) b t f = below_at n qs a b f
 placed_fits n qs (Cx a c) b t f = (below_at n qs a b f.0, below_at n qs c b f.1, apart qs a c t f.0 f.1 f.2)
 
+-- gates of the arguments fit the qubits in their place
 circuit_placed : (n : ℕ) (qs : List ℕ) (gs : List Gate) → Below n qs → has_twins qs ≡ false → IsCircuit (length qs) gs → IsCircuit n (map (placed qs) gs)
 circuit_placed n qs [] b t f = tt
 circuit_placed n qs (g ∷ gs) b t f = (placed_fits n qs g b t f.0, circuit_placed n qs gs b t f.1)
 
+-- gates of two circuits are a circuit
 circuit_append : (n : ℕ) (xs ys : List Gate) → IsCircuit n xs → IsCircuit n ys → IsCircuit n (xs ++ ys)
 circuit_append n [] ys a b = b
 circuit_append n (x ∷ xs) ys a b = (a.0, circuit_append n xs ys a.1 b)
 
+-- gates of one argument fit each qubit
 circuit_each : (n : ℕ) (qs : List ℕ) (gs : List Gate) → Below n qs → IsCircuit 1 gs → IsCircuit n (flat_map (λ q. map (placed (q ∷ [])) gs) qs)
 circuit_each n [] gs b f = tt
 circuit_each n (q ∷ qs) gs b f = circuit_append n (map (placed (q ∷ [])) gs) _ (circuit_placed n (q ∷ []) gs (b.0, tt) refl f) (circuit_each n qs gs b.1 f)
 
+-- the qubits of two lists are below n
 below_append : (n : ℕ) (xs ys : List ℕ) → Below n xs → Below n ys → Below n (xs ++ ys)
 below_append n [] ys a b = b
 below_append n (x ∷ xs) ys a b = (a.0, below_append n xs ys a.1 b)
 
+-- the qubits of a register are below n
 range_below : (n size first : ℕ) → first + size ≤ n → Below n (range_with_len first size)
 range_below n zero first h = tt
 range_below n (suc size) first h = (omega arith, range_below n size (first + 1) (omega arith))
 
+-- a register that is found lies below n
 found_inside : (n : ℕ) (rs : List Register) (name : List ℕ) (r : Register) → Inside n rs → find_register rs name ≡ Some r → (0 < r.size) × (r.first + r.size ≤ n)
 found_inside n [] name r i e = absurd (cc)
 found_inside n (x ∷ xs) name r i e =
@@ -161,6 +178,7 @@ found_inside n (x ∷ xs) name r i e =
     (λ (t : bytes_eq x.name name ≡ false). found_inside n xs name r i.1 (sym (ap (λ (b : Bool). cond b (Some x) (find_register xs name)) t) ∙ e))
     (cases_Bool (bytes_eq x.name name))
 
+-- the qubits that an argument names in a register are below n
 in_below : (n : ℕ) (r : Register) (o : Option (List ℕ)) → r.first + r.size ≤ n → Below n (qubits_in r o)
 in_below n r None h = range_below n r.size r.first h
 in_below n r (Some d) h = go (nat_lt (value d) r.size) refl
@@ -169,6 +187,7 @@ in_below n r (Some d) h = go (nat_lt (value d) r.size) refl
     go true e = let l = ltb-true _ _ e in (omega arith, tt)
     go false e = tt
 
+-- the qubits that arguments name are below n
 of_below : (n : ℕ) (rs : List Register) (args : List Argument) → Inside n rs → Below n (flat_map (qubits_of rs) args)
 of_below n rs [] i = tt
 of_below n rs (a ∷ args) i = below_append n (qubits_of rs a) _ (go (find_register rs a.name) refl) (of_below n rs args i)
@@ -195,6 +214,7 @@ one_each rs (x ∷ xs) a b c =
     go (Some y) None p q r = absurd (cc)
     go (Some y) (Some d) p q r = ap (λ (t : Bool). length (cond t ((y.first + value d) ∷ []) [])) (lt-ltb _ _ (leb-false _ _ q))
 
+-- where three tests fail together and two hold the third fails
 third : (a b c : Bool) → a ≡ true → b ≡ true → (a && (b && c)) ≡ false → c ≡ false
 third true true c p q r = r
 third true false c p q r = absurd (cc)
@@ -224,13 +244,13 @@ expanded_fits n rs args g i k other bare reg out twins = go (g.arity == 1) refl
         let size : g.arity ≡ length qs = count ∙ sym (one_each rs args reg out (no_bare many)) in
         circuit_placed n qs g.gates (of_below n rs args i) twins (subst (λ (k : ℕ). IsCircuit k g.gates) size k.1)
 
+-- the gates of a gate that may be known fit
 gates_fit : (n : ℕ) (rs : List Register) (args : List Argument) (name : List ℕ) (o : Option Known) → known name ≡ o → Inside n rs
     → takes_other o (length args) ≡ false → takes_bare o args ≡ false
     → list_any (λ a. is_none (find_register rs a.name)) args ≡ false → list_any (λ a. is_outside (find_register rs a.name) a.index) args ≡ false
     → has_twins (flat_map (qubits_of rs) args) ≡ false → IsCircuit n (gates_at o (flat_map (qubits_of rs) args))
 gates_fit n rs args name None e i other bare reg out twins = tt
 gates_fit n rs args name (Some g) e i other bare reg out twins = expanded_fits n rs args g i (known_is name g e) other bare reg out twins
-
 
 -- the first argument's register has a qubit
 some_qubit : (n : ℕ) (rs : List Register) (args : List Argument) → Inside n rs → 0 < length args → list_any (λ a. is_none (find_register rs a.name)) args ≡ false → 0 < n
@@ -265,8 +285,7 @@ takeable s ws (Some (Apply name args)) h i row =
     let p : Statement = record { lexemes = ws; form = Some (Apply name args) } in
     let f = unrefused s p row in
     let other = other_arity p f.statement in
-    let bare = no_bare_argument p f.profile in
-    (
+    let bare = no_bare_argument p f.profile in (
       some_qubit s.qubits s.registers args i h.1.1.0 f.registers,
       gates_fit s.qubits s.registers args name (known name) refl i other bare f.registers f.index f.twins,
       ltb-false _ _ f.t,

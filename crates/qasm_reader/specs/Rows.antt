@@ -72,13 +72,10 @@ includes_other other = false
 unfoldable pub is_not_in_profile : Statement → Bool
 is_not_in_profile p = (ends p.lexemes && (is_foreign p.lexemes || is_call p.lexemes)) || (includes_other p.form || has_bare p.form)
 
-abbrev pub contains_name : List (List ℕ) → List ℕ → Bool
-contains_name names name = list_any (λ n. bytes_eq n name) names
-
 -- TwoNames: it declares a register of a name that was declared before; or qubits, and a gate was applied before
 abbrev pub is_taken : State → Option Form → Bool
-is_taken s (Some (Qreg name size)) = contains_name s.names name || s.began
-is_taken s (Some (Creg name size)) = contains_name s.names name
+is_taken s (Some (Qreg name size)) = s.named name || s.began
+is_taken s (Some (Creg name size)) = s.named name
 is_taken s other = false
 
 -- UnknownGate: it applies a gate that isn't known

@@ -1,5 +1,5 @@
 -- What the statements of a text have said before one of them, and what each form adds to it (OpenQASM 2.0).
-use Rattle.std.specs.Prelude.{ℕ, ◌+◌, ◌-◌, ◌*◌, Bool, true, false, ◌==◌, List, [], ◌∷◌, ◌++◌, map, Option, Some, None, if◌then◌else◌, nat_lt, slice_index, fold}
+use Rattle.std.specs.Prelude.{ℕ, ◌+◌, ◌-◌, ◌*◌, Bool, true, false, ◌==◌, ◌||◌, List, [], ◌∷◌, ◌++◌, map, Option, Some, None, if◌then◌else◌, nat_lt, slice_index, fold}
 use Rattle.std.specs.List.{flat_map, range_with_len}
 use Rattle.std.specs.Str.{bytes_eq}
 use Rattle.tc_circuit.specs.declared.circuit.Gate.{Gate}
@@ -13,18 +13,18 @@ pub record Register : Type 0 where
   pub first : ℕ
   pub size : ℕ
 
--- the registers of qubits, the names of all registers, how many qubits there are, whether a gate was applied, the gates in
--- order, and how many statements there were
+-- the registers of qubits, whether a register of qubits or of bits has a name, how many qubits there are, whether a gate was
+-- applied, the gates in order, and how many statements there were
 pub record State : Type 0 where
   pub registers : List Register
-  pub names : List (List ℕ)
+  pub named : List ℕ → Bool
   pub qubits : ℕ
   pub began : Bool
   pub gates : List Gate
   pub count : ℕ
 
 abbrev pub start : State
-start = record { registers = []; names = []; qubits = 0; began = false; gates = []; count = 0 }
+start = record { registers = []; named = λ name. false; qubits = 0; began = false; gates = []; count = 0 }
 
 -- the number that digits write, of any size
 abbrev pub value : List ℕ → ℕ
@@ -74,14 +74,18 @@ abbrev pub gates_in : State → Option Form → List Gate
 gates_in s (Some (Apply name args)) = gates_at (known name) (flat_map (qubits_of s.registers) args)
 gates_in s other = []
 
+-- the names, and one more
+abbrev pub with_name : List ℕ → (List ℕ → Bool) → List ℕ → Bool
+with_name name named other = bytes_eq other name || named other
+
 -- what a form adds
 abbrev pub declared : State → Option Form → State
 declared s (Some (Qreg name size)) = record s {
   registers = s.registers ++ record { name = name; first = s.qubits; size = value size } ∷ [];
-  names = s.names ++ name ∷ [];
+  named = with_name name s.named;
   qubits = s.qubits + value size;
 }
-declared s (Some (Creg name size)) = record s { names = s.names ++ name ∷ [] }
+declared s (Some (Creg name size)) = record s { named = with_name name s.named }
 declared s (Some (Apply name args)) = record s { began = true; gates = s.gates ++ gates_in s (Some (Apply name args)) }
 declared s other = s
 

@@ -1,5 +1,8 @@
 -- What the code's values say, apart from where they lie in memory.
-use Rattle.std.specs.Prelude.{ℕ, List, [], map, Option, Some, None, option_map, is_some}
+use Rattle.std.specs.Prelude.{ℕ, Bool, List, [], map, Option, Some, None, option_map, is_some}
+use Rattle.std.specs.List.{list_any}
+use Rattle.std.specs.Str.{bytes_eq}
+use Rattle.std.specs.BTreeSet.{BTreeSet}
 use Rattle.tc_circuit.specs.Circuit.{Gates}
 use Rattle.tc_circuit.specs.declared.circuit.Gate.{Gate}
 use Rattle.qasm_reader.specs.declared.lexemes.Lexeme.{Lexeme as CodeLexeme}
@@ -43,8 +46,9 @@ register r = record { name = r.name.now; first = r.first; size = r.size }
 abbrev pub registers : List CodeRegister → List Register
 registers rs = map register rs
 
-abbrev pub names : List (Bor (List ℕ)) → List (List ℕ)
-names ns = map (λ n. n.now) ns
+-- whether a set of names has the name
+abbrev pub names : BTreeSet (Bor (List ℕ)) → List ℕ → Bool
+names set name = list_any (λ n. bytes_eq name n.now) set.keys
 
 -- the gates of a circuit, if there is one
 abbrev pub gates_made : Option Gates → List Gate
@@ -55,7 +59,7 @@ gates_made (Some c) = c.gates
 abbrev pub state : CodeScan → State
 state s = record {
   registers = registers s.registers.items;
-  names = names s.names.items;
+  named = names s.names;
   qubits = s.qubits;
   began = is_some s.circuit;
   gates = gates_made s.circuit;

@@ -3,16 +3,17 @@ ghost use Rattle.std.specs.Prelude.{◌≡◌, ◌+◌, ◌<◌, ◌≤◌, true
 ghost use Rattle.std.specs.Option.{ForSome};
 ghost use Rattle.tc_circuit.specs.Model.{IsCircuit, t_count_of};
 ghost use Rattle.qasm_reader.specs.Limits.{most_qubits, most_t_gates, most_statements};
-ghost use Rattle.qasm_reader.specs.State.{value, start, gates_at, gate_qubits, declared, after};
+ghost use Rattle.qasm_reader.specs.State.{value, start, with_name, gates_at, gate_qubits, declared, after};
 ghost use Rattle.qasm_reader.specs.Run.{IsTakeable};
 ghost use Rattle.qasm_reader.specs.View.{form, known_gate, gates_made, state};
 
 use crate::circuits::{push_gates, t_count_at};
-use crate::finding::small_value;
+use crate::finding::{add_name, small_value};
 use crate::forms::Form;
 use crate::gates::{Known, known_by_name};
 use crate::scan::{Register, Scan};
 use std::alloc::{AllocError, Global};
+use std::collections::BTreeSet;
 use tc_circuit::Circuit;
 
 pub(crate) fn new_scan<'a>(alloc: Global) -> Scan<'a>
@@ -20,7 +21,7 @@ pub(crate) fn new_scan<'a>(alloc: Global) -> Scan<'a>
 {
     Scan {
         registers: Vec::new(alloc),
-        names: Vec::new(alloc),
+        names: BTreeSet::new(alloc),
         qubits: 0,
         circuit: None,
         t_count: 0,
@@ -38,34 +39,30 @@ fn counted<'a>(scan: Scan<'a>) -> Scan<'a>
     scan
 }
 
-// One name more.
-fn with_name<'a>(scan: Scan<'a>, name: &'a [u8]) -> Result<Scan<'a>, AllocError>
-    ensures { IfOk result (λ s. state s ≡ record (state scan.entry) { names = (state scan.entry).names ++ name.now ∷ [] }) }
+// One register of bits more, of which only the name is kept.
+fn with_creg<'a>(scan: Scan<'a>, name: &'a [u8]) -> Result<Scan<'a>, AllocError>
+    ensures { IfOk result (λ s. state s ≡ record (state scan.entry) { named = with_name name.now (state scan.entry).named }) }
 {
     let mut scan = scan;
-    scan.names.push(name)?;
+    add_name(&mut scan.names, name)?;
     Ok(scan)
 }
 
 // One register of qubits more.
-fn with_register<'a>(
-    scan: Scan<'a>,
-    name: &'a [u8],
-    size: &[u8],
-) -> Result<Scan<'a>, AllocError>
+fn with_qreg<'a>(scan: Scan<'a>, name: &'a [u8], size: &[u8]) -> Result<Scan<'a>, AllocError>
     requires first { (state scan).began ≡ false }
     requires some { 0 < value size.now }
     requires few { scan.qubits + value size.now ≤ most_qubits }
     ensures { IfOk result (λ s. state s ≡ record (state scan.entry) {
       registers = (state scan.entry).registers ++ record { name = name.now; first = (state scan.entry).qubits; size = value size.now } ∷ [];
-      names = (state scan.entry).names ++ name.now ∷ [];
+      named = with_name name.now (state scan.entry).named;
       qubits = (state scan.entry).qubits + value size.now;
     }) }
 {
     let mut scan = scan;
     let size = small_value(size);
     let first = scan.qubits;
-    scan.names.push(name)?;
+    add_name(&mut scan.names, name)?;
     scan.registers.push(Register { name, first, size })?;
     scan.qubits += size;
     Ok(scan)
@@ -132,8 +129,8 @@ fn with_form<'a>(
     ensures { IfOk result (λ s. state s ≡ declared (state scan.entry) (option_map form found.entry)) }
 {
     match found {
-        Some(Form::Qreg(name, size)) => with_register(scan, name, size),
-        Some(Form::Creg(name, _)) => with_name(scan, name),
+        Some(Form::Qreg(name, size)) => with_qreg(scan, name, size),
+        Some(Form::Creg(name, _)) => with_creg(scan, name),
         Some(Form::Apply(name, _)) => with_gates(alloc, scan, known_by_name(name), qubits),
         _ => Ok(scan),
     }

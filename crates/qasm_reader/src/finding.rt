@@ -1,12 +1,11 @@
 // Numbers, names and registers.
-ghost use Rattle.std.specs.Prelude.{◌≡◌, ◌*◌, ◌+◌, ◌-◌, map, min, Option, option_map};
-ghost use Rattle.std.specs.List.{list_any};
-ghost use Rattle.std.specs.Str.{bytes_eq};
-ghost use Rattle.qasm_reader.specs.State.{value, find_register};
-ghost use Rattle.qasm_reader.specs.Rows.{contains_name};
+ghost use Rattle.std.specs.Prelude.{◌≡◌, ℕ, List, min, OnOk, option_map};
+ghost use Rattle.qasm_reader.specs.State.{value, find_register, with_name};
 ghost use Rattle.qasm_reader.specs.View.{register, registers, names};
 
 use crate::scan::Register;
+use std::alloc::AllocError;
+use std::collections::BTreeSet;
 
 // The number that digits write, or 4 where it is greater.
 pub(crate) fn small_value(digits: &[u8]) -> u8
@@ -19,16 +18,18 @@ pub(crate) fn small_value(digits: &[u8]) -> u8
     n
 }
 
-fn contains(names: &[&[u8]], name: &[u8]) -> bool
-    ensures { result ≡ list_any (λ n. bytes_eq n.now name.now) names.now }
+pub(crate) fn contains_name<'a>(set: &BTreeSet<&'a [u8]>, name: &'a [u8]) -> bool
+    ensures { result ≡ names set.now name.now }
 {
-    names.iter().any(|n| *n == name)
+    set.contains(&name)
 }
 
-pub(crate) fn contains_name(list: &[&[u8]], name: &[u8]) -> bool
-    ensures { result ≡ contains_name (names list.now) name.now }
+// Adds a name.
+pub(crate) fn add_name<'a>(set: &mut BTreeSet<&'a [u8]>, name: &'a [u8]) -> Result<(), AllocError>
+    ensures { OnOk result ((other : List ℕ) → names set.new other ≡ with_name name.now (names set.old) other) }
 {
-    contains(list, name)
+    set.insert(name)?;
+    Ok(())
 }
 
 // The register of the name.

@@ -87,7 +87,10 @@ fn argument_at<'a>(ws: &[Lexeme<'a>]) -> Option<Argument<'a>>
 }
 
 // Arguments between commas.
-fn arguments_at<'a>(alloc: Global, ws: &[Lexeme<'a>]) -> Result<Option<Vec<Argument<'a>>>, AllocError>
+fn arguments_at<'a>(
+    alloc: Global,
+    ws: &[Lexeme<'a>],
+) -> Result<Option<Vec<Argument<'a>>>, AllocError>
     ensures { IfOk result (λ o. option_map (λ v. arguments v.items) o ≡ arguments_at (lexemes ws.now)) }
 {
     let mut found = Vec::new(alloc);

@@ -21,11 +21,7 @@ use std::alloc::Global;
 use tc_circuit::Circuit;
 
 // The scan behind a statement to which no row applies.
-fn taken<'a>(
-    alloc: Global,
-    scan: Scan<'a>,
-    statement: &[Lexeme<'a>],
-) -> Result<Scan<'a>, ReadFault>
+fn taken<'a>(alloc: Global, scan: Scan<'a>, statement: &[Lexeme<'a>]) -> Result<Scan<'a>, ReadFault>
     requires { 0 < length statement.now }
     ensures ok { IfOk result (Takes (state scan.entry) (lexemes statement.now)) }
     ensures err { IfErr result (IsRowFault (state scan.entry) (lexemes statement.now)) }

@@ -194,7 +194,7 @@ fn has_bad_index(scan: &Scan, found: &Option<Form>) -> bool
     is_empty_size(found) || has_outside(scan, found)
 }
 
-fn is_taken(scan: &Scan, found: &Option<Form>) -> bool
+fn is_taken<'a>(scan: &Scan<'a>, found: &Option<Form<'a>>) -> bool
     ensures { result ≡ is_taken (state scan.now) (option_map form found.now) }
 {
     match found {
@@ -254,10 +254,10 @@ fn is_not_in_profile(statement: &[Lexeme], found: &Option<Form>) -> bool
 
 // The first row that applies, if one does.
 #[tactic(auto, unfolding(crate::specs::Rows::row_of, crate::specs::Rows::rows))]
-pub(crate) fn first_row(
-    scan: &Scan,
+pub(crate) fn first_row<'a>(
+    scan: &Scan<'a>,
     statement: &[Lexeme],
-    found: &Option<Form>,
+    found: &Option<Form<'a>>,
     qubits: &[u8],
 ) -> Option<Refusal>
     requires { qubits.now ≡ gate_qubits (state scan.now) (option_map form found.now) }

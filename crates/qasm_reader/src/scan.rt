@@ -5,10 +5,13 @@ ghost use Rattle.std.specs.Option.{ForSome, ForNone};
 ghost use Rattle.tc_circuit.specs.Model.{t_count_of};
 ghost use Rattle.qasm_reader.specs.Limits.{most_qubits, most_t_gates, most_statements};
 
+use std::collections::BTreeSet;
 use tc_circuit::Circuit;
 
 pub(crate) const MOST_QUBITS: u8 = 3;
+
 pub(crate) const MOST_T_GATES: usize = 44;
+
 pub(crate) const MOST_STATEMENTS: usize = 4096;
 
 // A register of qubits: its first qubit, and how many it has.
@@ -24,7 +27,7 @@ pub(crate) struct Register<'a> {
 #[derive(Drop)]
 pub(crate) struct Scan<'a> {
     pub registers: Vec<Register<'a>>,
-    pub names: Vec<&'a [u8]>,
+    pub names: BTreeSet<&'a [u8]>,
     pub qubits: u8,
     pub circuit: Option<Circuit>,
     pub t_count: usize,

@@ -1,1 +1,425 @@
-// Texts with what they read as.
+// Texts with what they read as, worked out by hand.
+use crate::{ReadFault, read};
+use std::alloc::{AllocError, Global};
+use tc_circuit::Gate::{self, Cx, H, S, Sdg, T, Tdg};
+
+const HEADS: [&[u8]; 4] = [
+    b"",
+    b"OPENQASM 2.0;\nqreg q[1];\n",
+    b"OPENQASM 2.0;\nqreg q[2];\n",
+    b"OPENQASM 2.0;\nqreg q[3];\n",
+];
+
+// The header and a register q of so many qubits, or nothing for 0, and then the lines.
+fn text(alloc: Global, qubits: usize, lines: &[u8]) -> Result<Vec<u8>, AllocError> {
+    let mut bytes = Vec::new(alloc);
+    for (n, head) in HEADS.iter().enumerate() {
+        if n == qubits {
+            bytes.extend_from_slice(head)?;
+        }
+    }
+    bytes.extend_from_slice(lines)?;
+    Ok(bytes)
+}
+
+// The header and a register q of one qubit, and then a line so many times.
+fn repeated(alloc: Global, line: &[u8], times: usize) -> Result<Vec<u8>, AllocError> {
+    let mut bytes = text(alloc, 1, b"")?;
+    for _ in 0..times {
+        bytes.extend_from_slice(line)?;
+    }
+    Ok(bytes)
+}
+
+fn refusal(alloc: Global, text: &[u8]) -> Option<(u8, usize)> {
+    match read(alloc, text) {
+        Err(ReadFault::Refused { number, place }) => Some((number, place)),
+        _ => None,
+    }
+}
+
+// How many qubits the head declares, the lines behind it, how many qubits the circuit has, and its gates.
+const CIRCUITS: [(usize, &[u8], u8, &[Gate]); 49] = [
+    // Each gate.
+    (1, b"h q[0];", 1, &[H(0)]),
+    (2, b"s q[1];", 2, &[S(1)]),
+    (2, b"sdg q[0];", 2, &[Sdg(0)]),
+    (3, b"t q[2];", 3, &[T(2)]),
+    (3, b"tdg q[1];", 3, &[Tdg(1)]),
+    (1, b"id q[0];", 1, &[]),
+    (1, b"x q[0];", 1, &[H(0), S(0), S(0), H(0)]),
+    (2, b"z q[1];", 2, &[S(1), S(1)]),
+    (1, b"y q[0];", 1, &[S(0), S(0), H(0), S(0), S(0), H(0)]),
+    (2, b"cx q[1],q[0];", 2, &[Cx(1, 0)]),
+    (2, b"cz q[0],q[1];", 2, &[H(1), Cx(0, 1), H(1)]),
+    (3, b"swap q[2],q[0];", 3, &[Cx(2, 0), Cx(0, 2), Cx(2, 0)]),
+    (
+        3,
+        b"ccx q[0],q[1],q[2];",
+        3,
+        &[
+            H(2),
+            Cx(1, 2),
+            Tdg(2),
+            Cx(0, 2),
+            T(2),
+            Cx(1, 2),
+            Tdg(2),
+            Cx(0, 2),
+            T(1),
+            T(2),
+            H(2),
+            Cx(0, 1),
+            T(0),
+            Tdg(1),
+            Cx(0, 1),
+        ],
+    ),
+    (
+        3,
+        b"ccx q[2],q[0],q[1];",
+        3,
+        &[
+            H(1),
+            Cx(0, 1),
+            Tdg(1),
+            Cx(2, 1),
+            T(1),
+            Cx(0, 1),
+            Tdg(1),
+            Cx(2, 1),
+            T(0),
+            T(1),
+            H(1),
+            Cx(2, 0),
+            T(2),
+            Tdg(0),
+            Cx(2, 0),
+        ],
+    ),
+    // Whole registers.
+    (3, b"h q;", 3, &[H(0), H(1), H(2)]),
+    (2, b"z q;", 2, &[S(0), S(0), S(1), S(1)]),
+    (1, b"id q;", 1, &[]),
+    (
+        1,
+        b"qreg r[2]; t r; h q; tdg r[0];",
+        3,
+        &[T(1), T(2), H(0), Tdg(1)],
+    ),
+    (0, b"OPENQASM 2.0;\nqreg a[2];\nqreg b[1];\n", 3, &[]),
+    (
+        0,
+        b"OPENQASM 2.0; qreg a[1]; creg c[7]; qreg b[2]; cx b[1],a[0];",
+        3,
+        &[Cx(2, 0)],
+    ),
+    // An exporter's file, whose lines end with a carriage return and a line feed.
+    (
+        0,
+        b"OPENQASM 2.0;\r\ninclude \"qelib1.inc\";\r\n// two qubits\r\nqreg q[2];\r\ncreg c[2];\r\nh q[0];\r\ncx q[0],q[1];\r\nbarrier q[0],q[1];\r\nt q[1];\r\n",
+        2,
+        &[H(0), Cx(0, 1), T(1)],
+    ),
+    // What the reader allows beyond the standard.
+    (
+        1,
+        b"include \"qelib1.inc\"; h q[0]; include\"qelib1.inc\";",
+        1,
+        &[H(0)],
+    ),
+    (
+        0,
+        b"OPENQASM 2.0; qreg h[1]; h h[0]; h h;",
+        1,
+        &[H(0), H(0)],
+    ),
+    (1, b"creg h[1]; h q[0];", 1, &[H(0)]),
+    (1, b"creg cx[1]; h q[0];", 1, &[H(0)]),
+    (1, b"h q[000];", 1, &[H(0)]),
+    (
+        1,
+        b"h q[00000000000000000000000000000000000000];",
+        1,
+        &[H(0)],
+    ),
+    (
+        0,
+        b"OPENQASM 2.0; qreg q[0000000000000000000000002]; s q[01];",
+        2,
+        &[S(1)],
+    ),
+    (2, b"barrier q[0],q[0],q,q[1],q;", 2, &[]),
+    (1, b"barrier q; qreg r[1]; t r[0];", 2, &[T(1)]),
+    (0, b"OPENQASM 2.0; qreg _Q9[1]; s _Q9;", 1, &[S(0)]),
+    (
+        0,
+        b"OPENQASM 2.0; qreg sin[1]; creg cos[1]; creg tan[1]; creg exp[1]; creg ln[1]; creg sqrt[1]; s sin;",
+        1,
+        &[S(0)],
+    ),
+    (
+        1,
+        b"creg c[340282366920938463463374607431768211456];",
+        1,
+        &[],
+    ),
+    // Blanks and comments.
+    (1, b"", 1, &[]),
+    (1, b"// \"\x00", 1, &[]),
+    (1, b"// no line feed", 1, &[]),
+    (1, b"h//\x80\nq\t[\r0 ]\n;//", 1, &[H(0)]),
+    (0, b"// first\nOPENQASM // 3\n2.0 ; qreg q [ 1 ] ;", 1, &[]),
+    (0, b"OPENQASM 2.0;qreg q[1];h q;", 1, &[H(0)]),
+    // A controlled s, and a gate with its qubits in each place.
+    (
+        2,
+        b"t q[0];\nt q[1];\ncx q[0],q[1];\ntdg q[1];\ncx q[0],q[1];\n",
+        2,
+        &[T(0), T(1), Cx(0, 1), Tdg(1), Cx(0, 1)],
+    ),
+    (
+        3,
+        b"cx q[0],q[2]; cx q[2],q[1]; cx q[1],q[0];",
+        3,
+        &[Cx(0, 2), Cx(2, 1), Cx(1, 0)],
+    ),
+    (
+        0,
+        b"OPENQASM 2.0; qreg a[1]; qreg b[1]; qreg c[1]; cx c[0],a[0]; cx b[0],c[0];",
+        3,
+        &[Cx(2, 0), Cx(1, 2)],
+    ),
+    (2, b"x q[1];", 2, &[H(1), S(1), S(1), H(1)]),
+    (3, b"barrier q;", 3, &[]),
+    (1, b"id q; id q[0];", 1, &[]),
+    (1, b"creg c[1]; barrier q;", 1, &[]),
+    (2, b"sdg q;", 2, &[Sdg(0), Sdg(1)]),
+    (2, b"tdg q;", 2, &[Tdg(0), Tdg(1)]),
+    (2, b"s q; t q;", 2, &[S(0), S(1), T(0), T(1)]),
+];
+
+#[test]
+fn circuits_are_read(rt: HostRuntime) {
+    for (head, lines, qubits, gates) in CIRCUITS {
+        let text = text(rt.alloc(), head, lines).expect(&rt, "memory");
+        let circuit = read(rt.alloc(), &text).expect(&rt, "is read");
+        assert_eq!(rt; circuit.qubits(), qubits, "at {lines:?}");
+        assert_eq!(rt; circuit.gates(), gates, "at {lines:?}");
+    }
+}
+
+// How many qubits the head declares, the lines behind it, the number of the refusal, and its place.
+const REFUSALS: [(usize, &[u8], u8, usize); 92] = [
+    // No header.
+    (0, b"", 1, 0),
+    (0, b" // nothing", 1, 11),
+    (0, b"OPENQASM 2.0", 1, 0),
+    (0, b" OPENQASM 2;", 1, 1),
+    (0, b"OPENQASM 2.00;", 1, 0),
+    (0, b"OPENQASM 3.0;", 1, 0),
+    (0, b"openqasm 2.0;", 1, 0),
+    (0, b"// one\nqreg q[1];", 1, 7),
+    (0, b";", 1, 0),
+    // Bad bytes.
+    (1, b"#", 2, 25),
+    (1, b"\x00", 2, 25),
+    (1, b"\x80", 2, 25),
+    (1, b"\"", 2, 25),
+    (1, b"include \"qelib1.inc\n\";", 2, 33),
+    (0, b"qreg q[1]; @", 2, 11),
+    (1, b"h q[9]; foo q; $", 2, 40),
+    // No statement.
+    (1, b"h q[0]", 3, 25),
+    (1, b";", 3, 25),
+    (1, b" ; ", 3, 26),
+    (1, b"[[[[;", 3, 25),
+    (1, b"h q[0;", 3, 25),
+    (1, b"h;", 3, 25),
+    (1, b"h h q[0];", 3, 25),
+    (1, b"h q[0] q[0];", 3, 25),
+    (1, b"h q[0],;", 3, 25),
+    (1, b"h ,q[0];", 3, 25),
+    (1, b"h q[];", 3, 25),
+    (1, b"h q[0.0];", 3, 25),
+    (1, b"h q[q];", 3, 25),
+    (1, b"h q[-1];", 3, 25),
+    (1, b"h 0;", 3, 25),
+    (1, b"h pi;", 3, 25),
+    (1, b"h qreg;", 3, 25),
+    (1, b"pi q[0];", 3, 25),
+    (1, b"include qelib1;", 3, 25),
+    (1, b"include \"qelib1.inc\"", 3, 25),
+    (1, b"include \"a\" \"b\";", 3, 25),
+    (1, b"qreg r;", 3, 25),
+    (1, b"qreg r[1.0];", 3, 25),
+    (1, b"qreg gate[1];", 3, 25),
+    (1, b"creg c[1], d[1];", 3, 25),
+    (1, b"barrier;", 3, 25),
+    (1, b"OPENQASM 2.0;", 3, 25),
+    (1, b"measure q[0] -> c[0]", 3, 25),
+    (1, b"u1(pi/4) q[0]", 3, 25),
+    (1, b"(u1) q[0];", 3, 25),
+    (1, b"h q,q;", 3, 25),
+    (2, b"cx q[0];", 3, 25),
+    (2, b"cx q;", 3, 25),
+    (3, b"ccx q[0],q[1];", 3, 25),
+    (2, b"swap q[0],q[1],q[0];", 3, 25),
+    (1, b"h r[9],q[9];", 3, 25),
+    // Outside the profile.
+    (1, b"measure q -> c;", 11, 25),
+    (1, b"reset q;", 11, 25),
+    (1, b"if (c == 1) x q[0];", 11, 25),
+    (1, b"opaque g a;", 11, 25),
+    (1, b"gate g a { h a; }", 11, 25),
+    (1, b"U(0,0,0) q[0];", 11, 25),
+    (1, b"CX q[0],q[0];", 11, 25),
+    (1, b"u1(pi/4) q[0];", 11, 25),
+    (1, b"foo(;", 11, 25),
+    (1, b"include \"other.inc\";", 11, 25),
+    (2, b"cx q,q[0];", 11, 25),
+    (2, b"swap r,r;", 11, 25),
+    (
+        0,
+        b"OPENQASM 2.0;\r\ninclude \"qelib1.inc\";\r\n// two qubits\r\nqreg q[2];\r\ncreg c[2];\r\nh q[0];\r\ncx q[0],q[1];\r\nbarrier q[0],q[1];\r\nt q[1];\r\nmeasure q -> c;\r\n",
+        11,
+        130,
+    ),
+    // Two names, and qubits behind a gate.
+    (1, b"qreg q[1];", 12, 25),
+    (1, b"creg q[1];", 12, 25),
+    (1, b"creg c[1]; creg c[2];", 12, 36),
+    (1, b"qreg q[0];", 12, 25),
+    (1, b"qreg q[9];", 12, 25),
+    (1, b"h q; qreg r[1];", 12, 30),
+    (1, b"id q; qreg r[0];", 12, 31),
+    // Unknown gates and registers.
+    (1, b"foo q[0];", 4, 25),
+    (1, b"foo r[7],r[7];", 4, 25),
+    (1, b"H q[0];", 4, 25),
+    (1, b"h r[0];", 5, 25),
+    (1, b"creg c[1]; h c[0];", 5, 36),
+    (1, b"barrier q,r;", 5, 25),
+    (2, b"cx q[9],r[0];", 5, 25),
+    // Sizes and indexes.
+    (1, b"h q[1];", 6, 25),
+    (1, b"creg c[0];", 6, 25),
+    (0, b"OPENQASM 2.0;\nqreg q[00];", 6, 14),
+    (1, b"h q[18446744073709551616];", 6, 25),
+    (1, b"h q[340282366920938463463374607431768211456];", 6, 25),
+    (1, b"barrier q[0],q[1];", 6, 25),
+    (1, b"cx q[1],q[1];", 6, 25),
+    // One qubit twice, and too many qubits or none.
+    (2, b"cx q[0],q[0];", 7, 25),
+    (3, b"ccx q[0],q[1],q[00];", 7, 25),
+    (0, b"OPENQASM 2.0;\nqreg q[4];\n", 8, 14),
+    (0, b"OPENQASM 2.0;\nqreg q[99999999999999999999];", 8, 14),
+    (2, b"creg c[1]; qreg r[2];", 8, 36),
+    (0, b"OPENQASM 2.0;\n", 8, 14),
+];
+
+#[test]
+fn texts_are_refused(rt: HostRuntime) {
+    for (head, lines, number, place) in REFUSALS {
+        let text = text(rt.alloc(), head, lines).expect(&rt, "memory");
+        assert_eq!(rt;
+            refusal(rt.alloc(), &text),
+            Some((number, place)),
+            "at {lines:?}"
+        );
+    }
+}
+
+// A line, how many times, and the number and the place of the refusal, or none.
+const LONG: [(&[u8], usize, Option<(u8, usize)>); 9] = [
+    (b"t q[0];\n", 44, None),
+    (b"t q[0];\n", 45, Some((9, 377))),
+    (b"tdg q;\n", 45, Some((9, 333))),
+    (b"h q[0];\n", 4095, None),
+    (b"h q[0];\n", 4096, Some((10, 32785))),
+    (b"barrier q;", 4096, Some((10, 40975))),
+    (b" ", 65511, None),
+    (b"y q;", 4095, None),
+    (b"creg c[1];", 2, Some((12, 35))),
+];
+
+#[test]
+fn long_texts(rt: HostRuntime) {
+    for (line, times, want) in LONG {
+        let text = repeated(rt.alloc(), line, times).expect(&rt, "memory");
+        assert_eq!(rt; refusal(rt.alloc(), &text), want, "at {line:?}");
+        assert_eq!(rt;
+            read(rt.alloc(), &text).is_ok(),
+            want.is_none(),
+            "at {line:?}"
+        );
+    }
+}
+
+// A line behind 4,096 statements, and the number of its refusal, whose place is 32,785.
+const LATE: [(&[u8], u8); 4] = [(b"h q;", 10), (b"foo q;", 4), (b";", 3), (b"h q", 3)];
+
+#[test]
+fn a_statement_too_many(rt: HostRuntime) {
+    for (line, number) in LATE {
+        let mut text = repeated(rt.alloc(), b"h q[0];\n", 4095).expect(&rt, "memory");
+        text.extend_from_slice(line).expect(&rt, "memory");
+        assert_eq!(rt;
+            refusal(rt.alloc(), &text),
+            Some((number, 32785)),
+            "at {line:?}"
+        );
+    }
+}
+
+#[test]
+fn blanks_and_semis(rt: HostRuntime) {
+    let spaces = vec![in rt.alloc(); b' '; 65536].expect(&rt, "memory");
+    assert_eq!(rt; refusal(rt.alloc(), &spaces), Some((1, 65536)));
+    let mut semis = text(rt.alloc(), 0, b"OPENQASM 2.0").expect(&rt, "memory");
+    for _ in 0..5000 {
+        semis.push(b';').expect(&rt, "memory");
+    }
+    assert_eq!(rt; refusal(rt.alloc(), &semis), Some((3, 13)));
+}
+
+// A length, and what the fronts of the text below it, down to the length before, read as: how many gates, or a refusal.
+const FRONTS: [(usize, Result<usize, (u8, usize)>); 15] = [
+    (13, Err((1, 0))),
+    (14, Err((8, 13))),
+    (15, Err((8, 14))),
+    (24, Err((3, 14))),
+    (26, Ok(0)),
+    (32, Err((3, 25))),
+    (34, Ok(1)),
+    (40, Err((3, 33))),
+    (42, Ok(2)),
+    (54, Err((3, 41))),
+    (56, Ok(3)),
+    (64, Err((3, 55))),
+    (66, Ok(4)),
+    (78, Err((3, 65))),
+    (80, Ok(5)),
+];
+
+#[test]
+fn fronts_of_a_text(rt: HostRuntime) {
+    let whole: &[u8] =
+        b"OPENQASM 2.0;\nqreg q[2];\nt q[0];\nt q[1];\ncx q[0],q[1];\ntdg q[1];\ncx q[0],q[1];\n";
+    let mut front = Vec::new(rt.alloc());
+    for (end, want) in FRONTS {
+        for byte in whole.iter().take(end).skip(front.len()) {
+            assert_eq!(rt; outcome(rt.alloc(), &front), want, "below {end}");
+            front.push(*byte).expect(&rt, "memory");
+        }
+    }
+    assert_eq!(rt; outcome(rt.alloc(), &front), Ok(5));
+}
+
+fn outcome(alloc: Global, text: &[u8]) -> Result<usize, (u8, usize)> {
+    match read(alloc, text) {
+        Ok(circuit) => Ok(circuit.gates().len()),
+        Err(ReadFault::Refused { number, place }) => Err((number, place)),
+        Err(ReadFault::Memory) => Err((0, 0)),
+    }
+}
