@@ -14,7 +14,7 @@ use tc_circuit::{Circuit, Gate};
 /// The most h gates that a circuit may have, each of which divides its matrix by √2.
 const MOST_H: usize = 120;
 
-// How many gates are h.
+// How many gates are h, however many gates there are.
 fn h_count(gates: &[Gate]) -> usize
     ensures { result ≡ h_count_of gates.now }
 {
@@ -61,7 +61,6 @@ fn text_of(alloc: Global, gates: &[Gate]) -> Result<String, AllocError>
 }
 
 // The line of a refusal.
-#[tactic(auto, unfolding(crate::specs::Shown::refusal_line))]
 fn refusal(alloc: Global, number: u8, place: usize) -> Result<String, AllocError>
     ensures { IfOk result (λ text. string_bytes text ≡ refusal_line number place) }
 {

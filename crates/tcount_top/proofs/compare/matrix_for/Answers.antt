@@ -1,4 +1,4 @@
-use Rattle.std.proofs.Common.{◌≤◌, List, take, get_or, sym, subst}
+use Rattle.std.proofs.Common.{List, take, get_or, sym, subst}
 use Rattle.std.proofs.lemmas.List.{take_more}
 use Rattle.tc_circuit.specs.declared.circuit.Gate.{Gate}
 use Rattle.tc_circuit.specs.declared.circuit.Gate.TheVariants.{H}

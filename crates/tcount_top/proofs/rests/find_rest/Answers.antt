@@ -1,4 +1,4 @@
-use Rattle.std.proofs.Common.{◌≡◌, ◌≤◌, ℕ, List, length, below_more, arith, sym, ap, ◌∙◌, subst}
+use Rattle.std.proofs.Common.{ℕ, List, below_more, arith, sym, ap, ◌∙◌, subst}
 use Rattle.tc_circuit.specs.Model.{IsCircuit, Same, h_count_of, t_count_of}
 use Rattle.tc_circuit.specs.declared.circuit.Gate.{Gate}
 use Rattle.tcount_top.specs.Rests.{rest_at}
