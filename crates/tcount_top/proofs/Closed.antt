@@ -7,7 +7,7 @@ use Rattle.std.proofs.lemmas.Bool.{and_parts, ltb-true, cases_eq, cases_Bool}
 use Rattle.ring_laws.specs.Ring.{power}
 use Rattle.ring_laws.specs.Cyclotomic.{plus, times, negative, integer, ω, root2}
 use Rattle.tc_circuit.specs.Gate.{Fits, is_t}
-use Rattle.tc_circuit.specs.Model.{IsCircuit, Same, t_count_of}
+use Rattle.tc_circuit.specs.Model.{IsCircuit, Same, h_count_of, t_count_of}
 use Rattle.tc_circuit.specs.declared.circuit.Gate.{Gate}
 use Rattle.tc_circuit.specs.declared.circuit.Gate.TheVariants.{H, S, Sdg, T, Tdg, Cx}
 use Rattle.tc_circuit.proofs.Same.{Same-refl, Same-trans, Same-append}
@@ -73,10 +73,10 @@ plain_gates : List Gate → Bool
 plain_gates [] = true
 plain_gates (g ∷ gates) = is_plain_gate g && plain_gates gates
 
--- the circuits of the numbers below this one are made of such gates, at most 60
+-- the circuits of the numbers below this one are made of such gates, at most 6 of them h
 all_plain : ℕ → Bool
 all_plain zero = true
-all_plain (suc n) = (plain_gates (rest_at n) && nat_lt (length (rest_at n)) 61) && all_plain n
+all_plain (suc n) = (plain_gates (rest_at n) && nat_lt (h_count_of (rest_at n)) 7) && all_plain n
 
 -- the 24 circuits are, by computation
 rests_plain : all_plain 24 ≡ true
@@ -124,12 +124,12 @@ plain_count [] h = refl
 plain_count (g ∷ gates) h = let p = and_parts _ _ h in uncounted g gates (plain_not_t g p.0) ∙ plain_count gates p.1
 
 -- what holds of all circuits below a number holds of each
-plain_below : (n i : ℕ) → all_plain n ≡ true → i < n → (plain_gates (rest_at i) && nat_lt (length (rest_at i)) 61) ≡ true
+plain_below : (n i : ℕ) → all_plain n ≡ true → i < n → (plain_gates (rest_at i) && nat_lt (h_count_of (rest_at i)) 7) ≡ true
 unfolding all_plain
 plain_below zero i h l = absurd (omega arith)
 plain_below (suc n) i h l =
     elim (cases_eq i n) [
-      | inl e ↦ subst (λ (k : ℕ). (plain_gates (rest_at k) && nat_lt (length (rest_at k)) 61) ≡ true) (sym e) (and_parts _ _ h).0
+      | inl e ↦ subst (λ (k : ℕ). (plain_gates (rest_at k) && nat_lt (h_count_of (rest_at k)) 7) ≡ true) (sym e) (and_parts _ _ h).0
       | inr other ↦ plain_below n i (and_parts _ _ h).1 (omega arith)
     ]
 
@@ -141,9 +141,12 @@ rest_circuit i l = plain_circuit _ (and_parts _ _ (plain_below 24 i rests_plain 
 pub rest_count : (i : ℕ) → i < 24 → t_count_of (rest_at i) ≡ 0
 rest_count i l = plain_count _ (and_parts _ _ (plain_below 24 i rests_plain l)).0
 
--- each of the 24 is short
-pub rest_short : (i : ℕ) → i < 24 → length (rest_at i) ≤ 60
-rest_short i l = let short : length (rest_at i) < 61 = ltb-true _ 61 (and_parts _ _ (plain_below 24 i rests_plain l)).1 in omega arith
+-- each of the 24 has few h gates
+pub rest_few : (i : ℕ) → i < 24 → h_count_of (rest_at i) ≤ 6
+rest_few i l =
+    let n = h_count_of (rest_at i) in
+    let few = ltb-true n 7 (and_parts (plain_gates (rest_at i)) (nat_lt n 7) (plain_below 24 i rests_plain l)).1 in
+    omega arith
 
 -- a circuit, and a gate behind it
 append_circuit : (c : List Gate) (g : Gate) → IsCircuit 1 c → Fits 1 g → IsCircuit 1 (c ++ g ∷ [])

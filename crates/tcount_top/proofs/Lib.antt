@@ -1,7 +1,6 @@
 pub mod Raising
 pub mod Four
 pub mod Closed
-pub mod Lines
 pub mod Print
 pub mod Due
 pub mod Answering

@@ -1,49 +1,80 @@
--- A number that is multiplied by √2 time after time, and a matrix that takes gate after gate.
-use Rattle.std.proofs.Common.{◌≡◌, ℕ, suc, ◌+◌, ◌*◌, ◌^◌, ◌<◌, ◌≤◌, refl, ap, sym, subst, ◌∙◌, arith, List, [], ◌∷◌, ◌++◌, add-one}
+-- A number that is multiplied by 2 and by √2, time after time, and a matrix that takes gate after gate.
+use Rattle.std.proofs.Common.{◌≡◌, ℕ, ◌+◌, ◌*◌, ◌/◌, ◌%◌, ◌^◌, ◌<◌, ◌≤◌, cond, refl, ap, sym, subst, ◌∙◌, arith, List, [], ◌∷◌, ◌++◌, length, take, get_or, add-one, pos}
 use Rattle.std.proofs.Math.Nat.{pow-suc, pow-le-pow_right}
+use Rattle.std.proofs.lemmas.List.Sums.{sum_by_more, sum_by_more_le}
 use Rattle.ring_laws.specs.Ring.{power}
 use Rattle.ring_laws.specs.Matrix.{product, Agree}
-use Rattle.ring_laws.specs.Cyclotomic.{Zω, cyclotomics, times, root2, ω}
+use Rattle.ring_laws.specs.Cyclotomic.{Zω, cyclotomics, plus, times, root2, ω, one_number}
 use Rattle.ring_laws.proofs.Ring.{power-zero, power-suc}
 use Rattle.ring_laws.proofs.Sums.{product-Agree}
-use Rattle.ring_laws.proofs.Cyclotomic.{cyclotomics_laws, times_assoc, one-times}
+use Rattle.ring_laws.proofs.Cyclotomic.{cyclotomics_laws, times_assoc, one-times, plus-times, integer-plus, root2-root2}
 use Rattle.tc_ring.specs.Bounds.{IsWithin}
 use Rattle.tc_ring.proofs.Bounds.{within_more}
-use Rattle.tc_circuit.specs.Gate.{gate_table, gate_exponent}
+use Rattle.tc_circuit.specs.Gate.{gate_table, gate_exponent, is_h}
 use Rattle.tc_circuit.specs.Grid.{Grid, table_of, scaled}
-use Rattle.tc_circuit.specs.Model.{ScaledMatrix, matrix_of, SameUpTo, Same}
+use Rattle.tc_circuit.specs.Model.{ScaledMatrix, matrix_of, SameUpTo, Same, h_count_of}
 use Rattle.tc_circuit.specs.declared.circuit.Gate.{Gate}
 use Rattle.tc_circuit.specs.declared.circuit.Gate.TheVariants.{H, S, Sdg, T, Tdg, Cx}
 use Rattle.tc_circuit.proofs.Same.{after-append}
 use Rattle.tcount_top.specs.Compare.{IsMatrixOf, SameMatrix}
 
--- a number times √2 taken no time
+-- no factor
 pub raised_none : (a : Zω) → a ≡ times (power cyclotomics root2 0) a
 raised_none a = sym (ap (λ (p : Zω). times p a) (power-zero cyclotomics_laws root2) ∙ one-times a)
 
--- a number times √2 taken once more
+-- one factor √2 more
 pub raised_more : (k : ℕ) (x y a : Zω) → y ≡ times root2 x → x ≡ times (power cyclotomics root2 k) a → y ≡ times (power cyclotomics root2 (k + 1)) a
 raised_more k x y a e h =
     e ∙ ap (times root2) h ∙ sym (times_assoc root2 (power cyclotomics root2 k) a)
     ∙ ap (λ (p : Zω). times p a) (sym (power-suc cyclotomics_laws root2 k) ∙ ap (power cyclotomics root2) (sym (add-one k)))
 
+-- as many factors, counted otherwise
+raised_at : (j k : ℕ) (y a : Zω) → j ≡ k → y ≡ times (power cyclotomics root2 j) a → y ≡ times (power cyclotomics root2 k) a
+raised_at j k y a same h = subst (λ (i : ℕ). y ≡ times (power cyclotomics root2 i) a) same h
+
+-- √2·√2 = 2
+twice : (x : Zω) → times root2 (times root2 x) ≡ plus x x
+twice x =
+    sym (times_assoc root2 root2 x) ∙ ap (λ (p : Zω). times p x) (root2-root2 ∙ integer-plus (pos 1) (pos 1))
+    ∙ plus-times one_number one_number x ∙ ap (λ (w : Zω). plus w w) (one-times x)
+
+-- one factor 2 more
+pub doubled_more : (k : ℕ) (x y a : Zω) → y ≡ plus x x → x ≡ times (power cyclotomics root2 (2 * k)) a → y ≡ times (power cyclotomics root2 (2 * (k + 1))) a
+doubled_more k x y a e h =
+    let last = raised_more (2 * k + 1) (times root2 x) y a (e ∙ sym (twice x)) (raised_more (2 * k) x (times root2 x) a refl h) in
+    raised_at (2 * k + 1 + 1) (2 * (k + 1)) y a (omega arith) last
+
+-- an odd number of factors
+pub raised_odd : (count : ℕ) (x y a : Zω) → count % 2 ≡ 1 → y ≡ times root2 x → x ≡ times (power cyclotomics root2 (2 * (count / 2))) a → y ≡ times (power cyclotomics root2 count) a
+raised_odd count x y a odd e h = raised_at (2 * (count / 2) + 1) count y a (omega arith) (raised_more (2 * (count / 2)) x y a e h)
+
 -- how far it is bounded then
-pub within_raised : (k : ℕ) (y : Zω) → IsWithin (2 * 2 ^ (60 + k)) y → IsWithin (2 ^ (60 + (k + 1))) y
-within_raised k y h =
-    within_more _ _ y (omega (arith, pow-suc 2 (60 + k), ap (λ (n : ℕ). 2 ^ n) (let s : 60 + (k + 1) ≡ suc (60 + k) = omega arith in s))) h
+pub within_doubled : (k : ℕ) (y : Zω) → IsWithin (2 ^ k + 2 ^ k) y → IsWithin (2 ^ (k + 1)) y
+within_doubled k y h = within_more _ _ y (omega (arith, pow-suc 2 k, ap (λ (n : ℕ). 2 ^ n) (add-one k))) h
 
 -- a bound by a greater power of two
 pub within_power : (j k : ℕ) (a : Zω) → j ≤ k → IsWithin (2 ^ j) a → IsWithin (2 ^ k) a
 within_power j k a l h = let two : 0 < 2 = omega arith in within_more _ _ a (pow-le-pow_right two l) h
 
--- a gate adds at most one √2
-pub at_most_one : (g : Gate) → gate_exponent g ≤ 1
-at_most_one (H q) = omega arith
-at_most_one (S q) = omega arith
-at_most_one (Sdg q) = omega arith
-at_most_one (T q) = omega arith
-at_most_one (Tdg q) = omega arith
-at_most_one (Cx control target) = omega arith
+-- ---- the exponent of a matrix counts the h gates
+-- a gate adds one √2 where it is h
+exponent_counts : (g : Gate) → gate_exponent g ≡ cond (is_h g) 1 0
+exponent_counts (H q) = refl
+exponent_counts (S q) = refl
+exponent_counts (Sdg q) = refl
+exponent_counts (T q) = refl
+exponent_counts (Tdg q) = refl
+exponent_counts (Cx control target) = refl
+
+-- one gate more
+pub exponent_more : (gates : List Gate) (i : ℕ) (d : Gate) (j k : ℕ) → i < length gates → j ≡ h_count_of (take i gates) → k ≡ gate_exponent (get_or gates i d) + j → k ≡ h_count_of (take (i + 1) gates)
+exponent_more gates i d j k l h e =
+    omega (arith, exponent_counts (get_or gates i d), sum_by_more (λ g. cond (is_h g) 1 0) gates i d l)
+
+-- there is room for one gate more
+pub exponent_room : (gates : List Gate) (i : ℕ) (d : Gate) (j most : ℕ) → i < length gates → j ≡ h_count_of (take i gates) → h_count_of gates ≤ most → gate_exponent (get_or gates i d) + j ≤ most
+exponent_room gates i d j most l h few =
+    omega (arith, exponent_counts (get_or gates i d), sum_by_more_le (λ g. cond (is_h g) 1 0) gates i d l)
 
 -- a matrix of some gates, after one more
 pub matrix_more : (done : List Gate) (g : Gate) (m n : Grid) → IsMatrixOf done m → n.qubits ≡ m.qubits → n.exponent ≡ gate_exponent g + m.exponent

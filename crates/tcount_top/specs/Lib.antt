@@ -1,7 +1,6 @@
 pub mod Code
 pub mod Words
 pub mod Shown
-pub mod Plain
 pub mod Rests
 pub mod Compare
 pub mod Out

@@ -1,23 +1,28 @@
 -- What the program answers to words and a text.
-use Rattle.std.specs.Prelude.{ℕ, ◌<◌, ◌≤◌, List, length, codes}
+use Rattle.std.specs.Prelude.{◌≡◌, ℕ, ◌<◌, ◌≤◌, List, length, codes}
 use Rattle.tcount_top.specs.declared.top.Status.{Status}
 use Rattle.tcount_top.specs.declared.top.Status.TheVariants.{Found, Above, Refused, Usage}
-use Rattle.tc_circuit.specs.Model.{IsCircuit, Same, IsLeastTCount, t_count_of}
+use Rattle.qasm_reader.specs.Read.{Reads, Refused as IsRefused}
+use Rattle.tc_circuit.specs.Circuit.{Gates}
+use Rattle.tc_circuit.specs.Model.{IsCircuit, Same, IsLeastTCount, h_count_of, t_count_of}
 use Rattle.tc_circuit.specs.declared.circuit.Gate.{Gate}
 use Rattle.tcount_top.specs.Words.{IsCommand, usage_line}
-use Rattle.tcount_top.specs.Shown.{IsWord, shown}
-use Rattle.tcount_top.specs.Plain.{IsPlain}
+use Rattle.tcount_top.specs.Shown.{IsWord, shown, refusal_line}
 
--- d is a circuit for c with the fewest T gates: it is the same as c up to phase, and no circuit on these qubits that is the
+-- the circuits that are answered so far: those on one qubit with at most 120 h gates
+abbrev pub IsAnswered : Gates → Type 0
+IsAnswered c = (c.qubits ≡ 1) × (h_count_of c.gates ≤ 120)
+
+-- d is a circuit for c with the fewest T gates: it is the same as c up to phase, and no circuit on c's qubits that is the
 -- same has fewer
-pub record IsOptimal (n : ℕ) (c d : List Gate) : Type 0 where
-  pub circuit : IsCircuit n d
-  pub same : Same n c d
-  pub least : IsLeastTCount n c (t_count_of d)
+pub record IsOptimal (c : Gates) (d : List Gate) : Type 0 where
+  pub circuit : IsCircuit c.qubits d
+  pub same : Same c.qubits c.gates d
+  pub least : IsLeastTCount c.qubits c.gates (t_count_of d)
 
--- each circuit on these qubits that is the same as c has more T gates than the bound
-abbrev pub IsAbove : ℕ → List Gate → ℕ → Type 0
-IsAbove n c bound = (d : List Gate) → IsCircuit n d → Same n c d → bound < t_count_of d
+-- each circuit on c's qubits that is the same as c has more T gates than the bound
+abbrev pub IsAbove : Gates → ℕ → Type 0
+IsAbove c bound = (d : List Gate) → IsCircuit c.qubits d → Same c.qubits c.gates d → bound < t_count_of d
 
 -- the outcomes for words and a text: status and bytes
 pub data Out (words : List (List ℕ)) (text : List ℕ) : Status → List ℕ → Type 0 where
@@ -25,14 +30,23 @@ pub data Out (words : List (List ℕ)) (text : List ℕ) : Status → List ℕ �
   usage : (IsCommand words → ⊥) → Out words text Usage usage_line
   -- the text has more than 65,536 bytes
   too_long : IsCommand words → 65536 < length text → Out words text Refused (codes "refused 14\n")
-  -- the text is no text that is read so far
-  not_plain : IsCommand words → length text ≤ 65536 → ((c : List Gate) → IsPlain text c → ⊥) → Out words text Refused (codes "refused 99\n")
+  -- the text is refused, for the reason of that number at that place
+  refused : IsCommand words → length text ≤ 65536 → (number place : ℕ) → IsRefused text number place
+      → Out words text Refused (refusal_line number place)
+  -- the text reads as a circuit that isn't answered so far
+  not_yet : IsCommand words → length text ≤ 65536 → (c : Gates) → Reads text c → (IsAnswered c → ⊥)
+      → Out words text Refused (codes "refused 99\n")
   -- the least T-count of the text's circuit is at most the bound: a circuit that has it, behind its count and its word
-  found : IsCommand words → length text ≤ 65536 → (c d : List Gate) (letters : List (List ℕ)) → IsPlain text c → IsOptimal 1 c d
-      → t_count_of d ≤ 0 → IsWord 1 (t_count_of d) letters → Out words text Found (shown 1 d letters)
+  found : IsCommand words → length text ≤ 65536 → (c : Gates) (d : List Gate) (letters : List (List ℕ)) → Reads text c → IsAnswered c
+      → IsOptimal c d → t_count_of d ≤ 0 → IsWord c.qubits (t_count_of d) letters → Out words text Found (shown c.qubits d letters)
   -- the least T-count of the text's circuit is above the bound
-  above : IsCommand words → length text ≤ 65536 → (c : List Gate) → IsPlain text c → IsAbove 1 c 0 → Out words text Above (codes "above 0\n")
+  above : IsCommand words → length text ≤ 65536 → (c : Gates) → Reads text c → IsAnswered c → IsAbove c 0
+      → Out words text Above (codes "above 0\n")
 
 -- the outcome for a text of at most 65,536 bytes, where the words are a command
 abbrev pub IsDue : List ℕ → Status → List ℕ → Type 0
 IsDue text status bytes = (words : List (List ℕ)) → IsCommand words → length text ≤ 65536 → Out words text status bytes
+
+-- the outcome for each such text that reads as the circuit
+abbrev pub IsDueFor : Gates → Status → List ℕ → Type 0
+IsDueFor c status bytes = (text : List ℕ) → Reads text c → IsDue text status bytes

@@ -1,5 +1,5 @@
--- How a circuit is printed: its T-count, the letters of its word, and a program for it.
--- Source: OpenQASM 2.0 (Cross, Bishop, Smolin, Gambetta 2017) for the program; the two comment lines are this project's own.
+-- How a circuit is printed: its T-count, the letters of its word, and a program for it. And how a refusal is.
+-- Source: OpenQASM 2.0 (Cross, Bishop, Smolin, Gambetta 2017) for the program; the rest is this project's own.
 use Rattle.std.specs.Prelude.{◌≡◌, ℕ, List, ◌++◌, length, All, Contains, codes, decimal}
 use Rattle.std.specs.List.{flat_map}
 use Rattle.tc_circuit.specs.Model.{t_count_of}
@@ -34,3 +34,7 @@ shown n gates letters =
     ++ codes "\n// word" ++ flat_map (λ (letter : List ℕ). codes " " ++ letter) letters
     ++ codes "\nOPENQASM 2.0;\ninclude \"qelib1.inc\";\nqreg q[" ++ decimal n ++ codes "];\n"
     ++ flat_map gate_line gates
+
+-- the line of a refusal: the number of the reason, and the place in the text
+unfoldable pub refusal_line : ℕ → ℕ → List ℕ
+refusal_line number place = codes "refused " ++ decimal number ++ codes " at " ++ decimal place ++ codes "\n"

@@ -1,22 +1,40 @@
 //! The outcome for a text.
-ghost use Rattle.std.specs.Prelude.{◌≡◌, ℕ, ◌++◌, List, [], IfOk, string_bytes};
+ghost use Rattle.std.specs.Prelude.{◌≡◌, ℕ, ◌↔◌, List, [], IfOk, IsTrue, string_bytes};
 ghost use Rattle.tc_circuit.specs.Gate.{Fits};
-ghost use Rattle.tc_circuit.specs.Model.{IsCircuit, t_count_of};
-ghost use Rattle.tcount_top.specs.Plain.{line_of};
-ghost use Rattle.tcount_top.specs.Shown.{shown};
-ghost use Rattle.tcount_top.specs.Out.{IsDue};
+ghost use Rattle.tc_circuit.specs.Model.{IsCircuit, h_count_of, t_count_of};
+ghost use Rattle.tcount_top.specs.Shown.{gate_line, shown, refusal_line};
+ghost use Rattle.tcount_top.specs.Out.{IsAnswered, IsDue, IsDueFor};
 
 use crate::Status;
-use crate::plain::read_plain;
 use crate::rests::find_rest;
+use qasm_reader::{ReadFault, read};
 use std::alloc::{AllocError, Global};
-use tc_circuit::Gate;
+use tc_circuit::{Circuit, Gate};
+
+/// The most h gates that a circuit may have, each of which divides its matrix by √2.
+const MOST_H: usize = 120;
+
+// How many gates are h, however many gates there are.
+fn h_count(gates: &[Gate]) -> usize
+    ensures { result ≡ h_count_of gates.now }
+{
+    gates
+        .iter()
+        .filter(|gate| matches!(gate, Gate::H(_)))
+        .count()
+}
+
+// Whether a circuit is one that is answered so far.
+fn is_answered(circuit: &Circuit) -> bool
+    ensures { IsTrue result ↔ IsAnswered circuit.now }
+{
+    circuit.qubits() == 1 && h_count(circuit.gates()) <= MOST_H
+}
 
 // The line of a gate on the one qubit.
-#[tactic(auto, unfolding(crate::specs::Plain::line_of))]
 fn line(gate: Gate) -> &'static str
     requires { Fits 1 gate }
-    ensures { result.now ≡ line_of gate }
+    ensures { result.now ≡ gate_line gate }
 {
     match gate {
         Gate::H(_) => "h q[0];\n",
@@ -42,15 +60,35 @@ fn text_of(alloc: Global, gates: &[Gate]) -> Result<String, AllocError>
     Ok(text)
 }
 
+// The line of a refusal.
+fn refusal(alloc: Global, number: u8, place: usize) -> Result<String, AllocError>
+    ensures { IfOk result (λ text. string_bytes text ≡ refusal_line number place) }
+{
+    format!(in alloc; "refused {number} at {place}\n")
+}
+
+// The outcome for a circuit.
+fn answer_for(alloc: Global, circuit: &Circuit) -> Result<(Status, String), AllocError>
+    ensures { IfOk result (λ r. IsDueFor circuit.now r.0 (string_bytes r.1)) }
+{
+    if !is_answered(circuit) {
+        return Ok((Status::Refused, String::from_str(alloc, "refused 99\n")?));
+    }
+    match find_rest(alloc, circuit.gates())? {
+        Some(rest) => Ok((Status::Found, text_of(alloc, &rest)?)),
+        None => Ok((Status::Above, String::from_str(alloc, "above 0\n")?)),
+    }
+}
+
 /// The status and the bytes of the outcome for a text.
 pub(crate) fn answer(alloc: Global, text: &[u8]) -> Result<(Status, String), AllocError>
     ensures { IfOk result (λ r. IsDue text.now r.0 (string_bytes r.1)) }
 {
-    let Some(circuit) = read_plain(alloc, text)? else {
-        return Ok((Status::Refused, String::from_str(alloc, "refused 99\n")?));
-    };
-    match find_rest(alloc, circuit.gates())? {
-        Some(rest) => Ok((Status::Found, text_of(alloc, &rest)?)),
-        None => Ok((Status::Above, String::from_str(alloc, "above 0\n")?)),
+    match read(alloc, text) {
+        Ok(circuit) => answer_for(alloc, &circuit),
+        Err(ReadFault::Refused { number, place }) => {
+            Ok((Status::Refused, refusal(alloc, number, place)?))
+        }
+        Err(ReadFault::Memory) => Err(AllocError),
     }
 }

@@ -1,10 +1,10 @@
 //! Matrices of one qubit, compared up to global phase.
-ghost use Rattle.std.specs.Prelude.{◌≡◌, ◌↔◌, ℕ, ◌^◌, ◌<◌, ◌≤◌, List, length, IfOk, IsTrue};
+ghost use Rattle.std.specs.Prelude.{◌≡◌, ◌↔◌, ℕ, ◌+◌, ◌-◌, ◌*◌, ◌/◌, ◌^◌, ◌<◌, ◌≤◌, List, IfOk, IsTrue};
 ghost use Rattle.ring_laws.specs.Ring.{power};
 ghost use Rattle.ring_laws.specs.Cyclotomic.{cyclotomics, times, root2, ω};
 ghost use Rattle.tc_ring.specs.Bounds.{IsWithin};
 ghost use Rattle.tc_ring.specs.Omega.{number_of};
-ghost use Rattle.tc_circuit.specs.Model.{IsCircuit, SameUpTo};
+ghost use Rattle.tc_circuit.specs.Model.{IsCircuit, SameUpTo, h_count_of};
 ghost use Rattle.tc_circuit.specs.Grid.{table_of, scaled};
 ghost use Rattle.tcount_top.specs.Compare.{IsMatrixOf, SameMatrix};
 
@@ -15,9 +15,9 @@ use tc_ring::Omega;
 /// The matrix of the gates on one qubit.
 pub(crate) fn matrix_for(alloc: Global, gates: &[Gate]) -> Result<Matrix, AllocError>
     requires circuit { IsCircuit 1 gates.now }
-    requires short { length gates.now ≤ 60 }
+    requires few { h_count_of gates.now ≤ 120 }
     ensures matrix { IfOk result (IsMatrixOf gates.now) }
-    ensures low { IfOk result (λ m. m.exponent ≤ 60) }
+    ensures exponent { IfOk result (λ m. m.exponent ≡ h_count_of gates.now) }
 {
     let mut matrix = Matrix::identity(alloc, 1)?;
     for gate in gates {
@@ -26,17 +26,32 @@ pub(crate) fn matrix_for(alloc: Global, gates: &[Gate]) -> Result<Matrix, AllocE
     Ok(matrix)
 }
 
-// The product with √2, as often as `count` says.
-fn raised(x: Omega, count: u32) -> Omega
-    requires small { IsWithin (2 ^ 60) (number_of x) }
-    requires low { count ≤ 60 }
-    ensures { number_of result ≡ times (power cyclotomics root2 count) (number_of x) }
+// The product with 2, as often as `count` says.
+fn doubled(x: Omega, count: u32) -> Omega
+    requires low { count ≤ 125 }
+    requires small { IsWithin (2 ^ (125 - count)) (number_of x) }
+    ensures value { number_of result ≡ times (power cyclotomics root2 (2 * count)) (number_of x) }
+    ensures small { IsWithin (2 ^ 125) (number_of result) }
 {
     let mut x = x;
     for _ in 0..count {
-        x = x.times_root2();
+        x = x.add(x);
     }
     x
+}
+
+// The product with √2, as often as `count` says: two factors √2 are a factor 2, which no coordinate outgrows.
+fn raised(x: Omega, count: u32) -> Omega
+    requires low { count ≤ 250 }
+    requires small { IsWithin (2 ^ (125 - count / 2)) (number_of x) }
+    ensures { number_of result ≡ times (power cyclotomics root2 count) (number_of x) }
+{
+    let even = doubled(x, count / 2);
+    if count % 2 == 1 {
+        even.times_root2()
+    } else {
+        even
+    }
 }
 
 // Whether two numbers are one.
@@ -50,8 +65,7 @@ fn are_equal(x: Omega, y: Omega) -> bool
 fn is_turned_cell(a: &Matrix, b: &Matrix, turn: u8, row: usize, col: usize) -> bool
     requires one { a.now.qubits ≡ 1 }
     requires other { b.now.qubits ≡ 1 }
-    requires low { a.now.exponent ≤ 60 }
-    requires other_low { b.now.exponent ≤ 60 }
+    requires low { b.now.exponent ≤ 6 }
     requires turn { turn < 8 }
     requires row { row < 2 }
     requires col { col < 2 }
@@ -67,8 +81,7 @@ fn is_turned_cell(a: &Matrix, b: &Matrix, turn: u8, row: usize, col: usize) -> b
 fn is_turned(a: &Matrix, b: &Matrix, turn: u8) -> bool
     requires one { a.now.qubits ≡ 1 }
     requires other { b.now.qubits ≡ 1 }
-    requires low { a.now.exponent ≤ 60 }
-    requires other_low { b.now.exponent ≤ 60 }
+    requires low { b.now.exponent ≤ 6 }
     requires turn { turn < 8 }
     ensures { IsTrue result ↔ SameUpTo (2 ^ 1) turn (scaled a.now) (scaled b.now) }
 {
@@ -82,8 +95,7 @@ fn is_turned(a: &Matrix, b: &Matrix, turn: u8) -> bool
 pub(crate) fn is_same(a: &Matrix, b: &Matrix) -> bool
     requires one { a.now.qubits ≡ 1 }
     requires other { b.now.qubits ≡ 1 }
-    requires low { a.now.exponent ≤ 60 }
-    requires other_low { b.now.exponent ≤ 60 }
+    requires low { b.now.exponent ≤ 6 }
     ensures { IsTrue result ↔ SameMatrix (scaled a.now) (scaled b.now) }
 {
     for turn in 0..8u8 {

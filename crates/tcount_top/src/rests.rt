@@ -1,6 +1,6 @@
 //! The 24 circuits without T gates that one qubit has, up to global phase.
-ghost use Rattle.std.specs.Prelude.{◌≡◌, ℕ, ◌<◌, ◌≤◌, List, length, IfOk, MatchOption};
-ghost use Rattle.tc_circuit.specs.Model.{IsCircuit, Same, t_count_of};
+ghost use Rattle.std.specs.Prelude.{◌≡◌, ℕ, ◌<◌, ◌≤◌, List, IfOk, MatchOption};
+ghost use Rattle.tc_circuit.specs.Model.{IsCircuit, Same, h_count_of, t_count_of};
 ghost use Rattle.tcount_top.specs.Rests.{rest_at, piece, first_pieces, second_pieces, third_pieces, last_pieces};
 
 use crate::compare::{is_same, matrix_for};
@@ -72,7 +72,7 @@ fn rest(alloc: Global, index: usize) -> Result<Vec<Gate>, AllocError>
 /// The one of the 24 circuits that is the same as a circuit up to phase, if one is.
 pub(crate) fn find_rest(alloc: Global, gates: &[Gate]) -> Result<Option<Vec<Gate>>, AllocError>
     requires circuit { IsCircuit 1 gates.now }
-    requires short { length gates.now ≤ 60 }
+    requires few { h_count_of gates.now ≤ 120 }
     ensures { IfOk result (λ o. MatchOption o
         ((i : ℕ) → i < 24 → Same 1 gates.now (rest_at i) → ⊥)
         (λ rest. IsCircuit 1 rest.items × (t_count_of rest.items ≡ 0) × Same 1 gates.now rest.items)) }

@@ -1,95 +1,182 @@
 use super::*;
+use std::alloc::{AllocError, Global};
 use std::test::Fail;
 use tc_io::{CleanSink, CleanSource, MemSink, MemSource, StdSink, StdSource};
 
 const WORDS: [&str; 3] = ["synth", "0", "1"];
 
-// Words, a text that comes byte by byte, and the status and the bytes that are the outcome.
+// Words that are no command.
 #[test]
-fn outcomes(rt: HostRuntime) -> Result<(), Fail> {
+fn usage(rt: HostRuntime) -> Result<(), Fail> {
     let alloc = rt.alloc();
-    let usage = b"usage: synth M W | check | levels N K W | bench N T SEED M W\n".as_slice();
-    let rows: [(&[&str], &[u8], Status, &[u8]); 13] = [
-        (
-            &WORDS,
-            b"OPENQASM 2.0;\nqreg q[1];\nt q[0];\nt q[0];\n",
-            Status::Found,
-            b"// t-count 0\n// word\nOPENQASM 2.0;\ninclude \"qelib1.inc\";\nqreg q[1];\ns q[0];\n",
-        ),
-        (
-            &WORDS,
-            b"OPENQASM 2.0;\nqreg q[1];\nt q[0];\n",
-            Status::Above,
-            b"above 0\n",
-        ),
-        (&WORDS, b"", Status::Refused, b"refused 99\n"),
-        (
-            &WORDS,
-            b"OPENQASM 2.0;\nqreg q[1];\n",
-            Status::Found,
-            b"// t-count 0\n// word\nOPENQASM 2.0;\ninclude \"qelib1.inc\";\nqreg q[1];\n",
-        ),
-        // The phase between h s h s h s and nothing is ω.
-        (
-            &WORDS,
-            b"OPENQASM 2.0;\nqreg q[1];\nh q[0];\ns q[0];\nh q[0];\ns q[0];\nh q[0];\ns q[0];\n",
-            Status::Found,
-            b"// t-count 0\n// word\nOPENQASM 2.0;\ninclude \"qelib1.inc\";\nqreg q[1];\n",
-        ),
-        (
-            &WORDS,
-            b"OPENQASM 2.0;\nqreg q[1];\ntdg q[0];\nsdg q[0];\nt q[0];\n",
-            Status::Found,
-            b"// t-count 0\n// word\nOPENQASM 2.0;\ninclude \"qelib1.inc\";\nqreg q[1];\ns q[0];\ns q[0];\ns q[0];\n",
-        ),
-        (
-            &WORDS,
-            b"OPENQASM 2.0;\nqreg q[1];\nt q[0];\nh q[0];\nt q[0];\nh q[0];\n",
-            Status::Above,
-            b"above 0\n",
-        ),
-        (
-            &WORDS,
-            b"OPENQASM 2.0;\nqreg q[1];\nt q[0];",
-            Status::Refused,
-            b"refused 99\n",
-        ),
-        (&["synth", "5", "9"], b"", Status::Usage, usage),
-        (&["synth", "0", "1", "1"], b"", Status::Usage, usage),
-        (&["synth", "0"], b"", Status::Usage, usage),
-        (&["-synth", "0", "1"], b"", Status::Usage, usage),
-        (&[], b"", Status::Usage, usage),
+    let line = "usage: synth M W | check | levels N K W | bench N T SEED M W\n";
+    let rows: [&[&str]; 5] = [
+        &["synth", "5", "9"],
+        &["synth", "0", "1", "1"],
+        &["synth", "0"],
+        &["-synth", "0", "1"],
+        &[],
     ];
-    for (words, text, status, bytes) in rows {
-        let mut source = MemSource::new(Vec::from_slice(alloc, text)?, 1, Vec::new(alloc));
+    for words in rows {
         let mut sink = MemSink::new(alloc, 200, 7, Vec::new(alloc))?;
-        assert_eq!(rt; run(alloc, words, &mut source, &mut sink), status);
-        assert!(rt; sink.bytes() == bytes);
+        let mut source = CleanSource::new(Vec::new(alloc));
+        let status = run(alloc, words, &mut source, &mut sink);
+        assert_eq!(rt; status, Status::Usage);
+        assert!(rt; sink.bytes() == line.as_bytes());
     }
     Ok(())
 }
 
-// Texts at the limits: how many lines of h, or how many spaces, and the outcome.
+// A text that comes byte by byte, and the status and the bytes that are the outcome.
+#[test]
+fn outcomes(rt: HostRuntime) -> Result<(), Fail> {
+    let alloc = rt.alloc();
+    let rows = [
+        (
+            "OPENQASM 2.0;\nqreg q[1];\nt q[0];\nt q[0];\n",
+            Status::Found,
+            "// t-count 0\n// word\nOPENQASM 2.0;\ninclude \"qelib1.inc\";\nqreg q[1];\ns q[0];\n",
+        ),
+        (
+            "OPENQASM 2.0;\nqreg q[1];\nt q[0];\n",
+            Status::Above,
+            "above 0\n",
+        ),
+        (
+            "OPENQASM 2.0;\nqreg q[1];\n",
+            Status::Found,
+            "// t-count 0\n// word\nOPENQASM 2.0;\ninclude \"qelib1.inc\";\nqreg q[1];\n",
+        ),
+        // The phase between h s h s h s and nothing is ω.
+        (
+            "OPENQASM 2.0;\nqreg q[1];\nh q[0];\ns q[0];\nh q[0];\ns q[0];\nh q[0];\ns q[0];\n",
+            Status::Found,
+            "// t-count 0\n// word\nOPENQASM 2.0;\ninclude \"qelib1.inc\";\nqreg q[1];\n",
+        ),
+        (
+            "OPENQASM 2.0;\nqreg q[1];\ntdg q[0];\nsdg q[0];\nt q[0];\n",
+            Status::Found,
+            "// t-count 0\n// word\nOPENQASM 2.0;\ninclude \"qelib1.inc\";\nqreg q[1];\ns q[0];\ns q[0];\ns q[0];\n",
+        ),
+        (
+            "OPENQASM 2.0;\nqreg q[1];\nt q[0];\nh q[0];\nt q[0];\nh q[0];\n",
+            Status::Above,
+            "above 0\n",
+        ),
+        // A file of an exporter: an include, a comment, lines ended by carriage return and line feed, a gate on a register.
+        (
+            "OPENQASM 2.0;\r\ninclude \"qelib1.inc\";\r\n// one qubit\r\nqreg q[1];\r\ncreg c[1];\r\nx q;\r\n",
+            Status::Found,
+            "// t-count 0\n// word\nOPENQASM 2.0;\ninclude \"qelib1.inc\";\nqreg q[1];\nh q[0];\ns q[0];\ns q[0];\nh q[0];\n",
+        ),
+        (
+            "OPENQASM 2.0;\nqreg q[2];\n",
+            Status::Refused,
+            "refused 99\n",
+        ),
+        ("", Status::Refused, "refused 1 at 0\n"),
+        ("OPENQASM 2.0;\n", Status::Refused, "refused 8 at 14\n"),
+        (
+            "OPENQASM 2.0;\nqreg q[4];\n",
+            Status::Refused,
+            "refused 8 at 14\n",
+        ),
+        (
+            "OPENQASM 2.0;\nqreg q[2];\ncx q[0],q[0];\n",
+            Status::Refused,
+            "refused 7 at 25\n",
+        ),
+        (
+            "OPENQASM 2.0;\nqreg q[1];\nh q[0]",
+            Status::Refused,
+            "refused 3 at 25\n",
+        ),
+        (
+            "OPENQASM 2.0;\nqreg q[1];\nfoo q[0];\n",
+            Status::Refused,
+            "refused 4 at 25\n",
+        ),
+        (
+            "OPENQASM 2.0;\nqreg q[1];\nh r[0];\n",
+            Status::Refused,
+            "refused 5 at 25\n",
+        ),
+        (
+            "OPENQASM 2.0;\nqreg q[1];\nh q[1];\n",
+            Status::Refused,
+            "refused 6 at 25\n",
+        ),
+        (
+            "OPENQASM 2.0;\nqreg q[1];\nqreg q[1];\n",
+            Status::Refused,
+            "refused 12 at 25\n",
+        ),
+        (
+            "OPENQASM 2.0;\nqreg q[1];\n#\n",
+            Status::Refused,
+            "refused 2 at 25\n",
+        ),
+    ];
+    for (text, status, bytes) in rows {
+        let text = Vec::from_slice(alloc, text.as_bytes())?;
+        let mut source = MemSource::new(text, 1, Vec::new(alloc));
+        let mut sink = MemSink::new(alloc, 200, 7, Vec::new(alloc))?;
+        assert_eq!(rt;
+            run(alloc, &WORDS, &mut source, &mut sink),
+            status,
+            "{bytes:?}"
+        );
+        assert!(rt; sink.bytes() == bytes.as_bytes(), "{bytes:?}");
+    }
+    Ok(())
+}
+
+// A text: its front, and a line as often as `times` says.
+fn repeated(alloc: Global, front: &str, line: &str, times: usize) -> Result<Vec<u8>, AllocError> {
+    let mut text = Vec::from_slice(alloc, front.as_bytes())?;
+    for _ in 0..times {
+        text.extend_from_slice(line.as_bytes())?;
+    }
+    Ok(text)
+}
+
+// Long texts, and texts at the limits: a front, a line and how often it stands, and the outcome.
 #[test]
 fn limits(rt: HostRuntime) -> Result<(), Fail> {
     let alloc = rt.alloc();
-    for (lines, status) in [(40, Status::Found), (41, Status::Refused)] {
-        let mut text = Vec::from_slice(alloc, b"OPENQASM 2.0;\nqreg q[1];\n")?;
-        for _ in 0..lines {
-            text.extend_from_slice(b"h q[0];\n")?;
-        }
-        let mut source = CleanSource::new(text);
-        assert_eq!(rt;
-            run(alloc, &WORDS, &mut source, &mut CleanSink::new()),
-            status
-        );
-    }
-    let rows: [(usize, &[u8]); 2] = [(65536, b"refused 99\n"), (65537, b"refused 14\n")];
-    for (spaces, bytes) in rows {
-        let mut source = CleanSource::new(vec![in alloc; b' '; spaces]?);
+    let one = "OPENQASM 2.0;\nqreg q[1];\n";
+    let nothing = "// t-count 0\n// word\nOPENQASM 2.0;\ninclude \"qelib1.inc\";\nqreg q[1];\n";
+    let z =
+        "// t-count 0\n// word\nOPENQASM 2.0;\ninclude \"qelib1.inc\";\nqreg q[1];\ns q[0];\ns q[0];\n";
+    let rows = [
+        (one, "t q[0];\n", 44, Status::Found, z),
+        (one, "t q[0];\n", 45, Status::Refused, "refused 9 at 377\n"),
+        (one, "t q[0];\nh q[0];\n", 44, Status::Above, "above 0\n"),
+        (one, "h q[0];\n", 120, Status::Found, nothing),
+        (one, "h q[0];\n", 121, Status::Refused, "refused 99\n"),
+        // h s has order 3 up to phase, and cells grow to 2^60.
+        (one, "h q[0];\ns q[0];\n", 120, Status::Found, nothing),
+        (one, "z q[0];\n", 4095, Status::Found, z),
+        (one, "h q[0];\n", 4095, Status::Refused, "refused 99\n"),
+        (
+            one,
+            "h q[0];\n",
+            4096,
+            Status::Refused,
+            "refused 10 at 32785\n",
+        ),
+        ("", " ", 65536, Status::Refused, "refused 1 at 65536\n"),
+        ("", " ", 65537, Status::Refused, "refused 14\n"),
+    ];
+    for (front, line, times, status, bytes) in rows {
+        let mut source = CleanSource::new(repeated(alloc, front, line, times)?);
         let mut sink = MemSink::new(alloc, 200, 200, Vec::new(alloc))?;
-        assert_eq!(rt; run(alloc, &WORDS, &mut source, &mut sink), Status::Refused);
-        assert!(rt; sink.bytes() == bytes);
+        assert_eq!(rt;
+            run(alloc, &WORDS, &mut source, &mut sink),
+            status,
+            "{line:?} {times}"
+        );
+        assert!(rt; sink.bytes() == bytes.as_bytes(), "{line:?} {times}");
     }
     Ok(())
 }

@@ -1,9 +1,9 @@
-use Rattle.std.proofs.Common.{ℕ, List, length, below_more, arith, sym, ap, ◌∙◌, subst}
-use Rattle.tc_circuit.specs.Model.{IsCircuit, Same, t_count_of}
+use Rattle.std.proofs.Common.{ℕ, List, below_more, arith, sym, ap, ◌∙◌, subst}
+use Rattle.tc_circuit.specs.Model.{IsCircuit, Same, h_count_of, t_count_of}
 use Rattle.tc_circuit.specs.declared.circuit.Gate.{Gate}
 use Rattle.tcount_top.specs.Rests.{rest_at}
 use Rattle.tcount_top.proofs.Answering.{refuted}
-use Rattle.tcount_top.proofs.Closed.{rest_circuit, rest_count, rest_short}
+use Rattle.tcount_top.proofs.Closed.{rest_circuit, rest_count, rest_few}
 use Rattle.tcount_top.proofs.Raising.{found_same, not_same}
 use Rattle.tcount_top.proofs.rests.find_rest.Goals as goal
 
@@ -11,9 +11,13 @@ pub matrix_for-requires-in-loop-index-clause-circuit : goal.matrix_for-requires-
 matrix_for-requires-in-loop-index-clause-circuit c =
     subst (λ (gates : List Gate). IsCircuit 1 gates) (sym (c.deref.ensures.value ∙ c.in_ok-rest.ensures)) (rest_circuit c.loop-index.index c.loop-index-test.true)
 
-pub matrix_for-requires-in-loop-index-clause-short : goal.matrix_for-requires-in-loop-index-clause-short
-matrix_for-requires-in-loop-index-clause-short c =
-    omega (arith, ap length (c.deref.ensures.value ∙ c.in_ok-rest.ensures), rest_short c.loop-index.index c.loop-index-test.true)
+pub matrix_for-requires-in-loop-index-clause-few : goal.matrix_for-requires-in-loop-index-clause-few
+matrix_for-requires-in-loop-index-clause-few c =
+    omega (arith, ap h_count_of (c.deref.ensures.value ∙ c.in_ok-rest.ensures), rest_few c.loop-index.index c.loop-index-test.true)
+
+pub is_same-requires-clause-low : goal.is_same-requires-clause-low
+is_same-requires-clause-low c =
+    omega (arith, c.in_ok-matrix_for.ensures.exponent, ap h_count_of (c.deref.ensures.value ∙ c.in_ok-rest.ensures), rest_few c.loop-index.index c.loop-index-test.true)
 
 pub returns-then-is_same : goal.returns-then-is_same
 returns-then-is_same c = (
