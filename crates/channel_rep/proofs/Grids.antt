@@ -10,7 +10,7 @@ use Rattle.channel_rep.proofs.OnePower.{within_power, brought}
 use Rattle.channel_rep.proofs.Squares.{place-lt, row_below, column_below, place_is}
 use Rattle.std.proofs.lemmas.Nat.{pow-add}
 use Rattle.ring_laws.specs.Matrix.{identity, product, Agree}
-use Rattle.tc_ring.specs.Surds.{Surd, surds, SurdWithin, IsOdd, surd_integer, surd_times}
+use Rattle.tc_ring.specs.Surds.{surds, SurdWithin, IsOdd, surd_integer, surd_times}
 use Rattle.tc_ring.specs.declared.root2.Root2.{Root2}
 use Rattle.tc_ring.proofs.Surds.{surd_within_more}
 use Rattle.channel_rep.specs.Gates.{Fits}
@@ -20,19 +20,23 @@ use Rattle.channel_rep.specs.Cells.{HasOneUnit, IsSignedPermutation, ChannelGrid
 use Rattle.channel_rep.specs.declared.gate.ChannelGate.{ChannelGate}
 use Rattle.channel_rep.proofs.Rules.{one_at, zero_at, gate_rule, rotation_rule, moved_within, rotated_within}
 
+-- what a channel with these fields shows
 abbrev pub grid : ℕ → ℕ → ℕ → List Root2 → ChannelGrid
 grid n k grown cells = record { qubits = n; exponent = k; grown = grown; cells = cells }
 
+-- 0 and 1 are within 1
 within_one : (n : ℕ) → n ≤ 1 → SurdWithin 1 (surd_integer (pos n))
 unfolding surd_integer
 within_one n l = record { low_a = omega (arith, ints); high_a = omega (arith, ints); low_b = omega (arith, ints); high_b = omega (arith, ints) }
 
+-- so are the entries of the identity
 identity_within : (r c : ℕ) → SurdWithin 1 (identity surds r c)
 identity_within r c = elim (cases_eq r c) [
   | inl e ↦ subst (SurdWithin 1) (sym (one_at r c e)) (within_one 1 (omega arith))
   | inr d ↦ subst (SurdWithin 1) (sym (zero_at r c d)) (within_one 0 (omega arith))
 ]
 
+-- the identity is a channel
 pub grid_identity : (n : ℕ) (cells : List Root2) → 0 < n → n ≤ 3 → length cells ≡ 4 ^ n * 4 ^ n → Agree surds (4 ^ n) (entries (4 ^ n) cells) (identity surds) → IsChannelGrid (grid n 0 0 cells)
 grid_identity n cells some few whole agree = record {
   some = some;
@@ -60,6 +64,7 @@ pub record GateDone (n k grown : ℕ) (g : ChannelGate) (old new : List Root2) :
   pub table : Agree surds (4 ^ n) (entries (4 ^ n) new) (product surds (4 ^ n) (gate_table n g) (entries (4 ^ n) old))
   pub built : (steps : List Step) → IsBuiltOf n steps (scaled (grid n k grown old)) → IsBuiltOf n (steps ++ by_gate g ∷ []) (scaled (grid n k grown new))
 
+-- from the row rule of a gate, over cells that were lent
 pub gate_done : (n k grown len : ℕ) (old lent new : List Root2) (g : ChannelGate) → Fits n g → IsChannelGrid (grid n k grown old) → lent ≡ old → length lent ≡ len → length new ≡ 4 ^ n * 4 ^ n
     → ((r c : ℕ) → r < 4 ^ n → c < 4 ^ n → entries (4 ^ n) new r c ≡ moved n g (entries (4 ^ n) lent) r c) → GateDone n k grown g old (take len (new ++ drop (length new) old))
 gate_done n k grown len old lent new g fits valid e long whole rows =
@@ -86,6 +91,7 @@ pub record RotationDone (n k grown : ℕ) (inverse : Bool) (p : ℕ) (old new : 
   pub valid : IsChannelGrid (grid n (k + 1) (grown + 1) new)
   pub table : Agree surds (4 ^ n) (entries (4 ^ n) new) (product surds (4 ^ n) (rotation_table n inverse p) (entries (4 ^ n) old))
 
+-- from the row rule of a rotation, over cells that were lent
 pub rotation_done : (n k grown len : ℕ) (old lent new : List Root2) (inverse : Bool) (p : ℕ) → p < 4 ^ n → p ≢ 0 → grown < 62 → IsChannelGrid (grid n k grown old) → lent ≡ old → length lent ≡ len
     → length new ≡ 4 ^ n * 4 ^ n → ((r c : ℕ) → r < 4 ^ n → c < 4 ^ n → entries (4 ^ n) new r c ≡ rotated n inverse p (entries (4 ^ n) lent) r c)
     → RotationDone n k grown inverse p old (take len (new ++ drop (length new) old))
@@ -101,7 +107,7 @@ rotation_done n k grown len old lent new inverse p lp d room valid e long whole 
         small = λ r c l m.
             subst (SurdWithin (2 ^ (grown + 1))) (sym (rows r c l m))
             (surd_within_more (2 * 2 ^ grown) (2 ^ (grown + 1)) _ (omega (arith, pow-add 2 grown 1))
-              (rotated_within n (2 ^ grown) inverse p lp (entries (4 ^ n) lent) (grown_within n grown grown old lent (omega arith) e valid.small) r c l m));
+            (rotated_within n (2 ^ grown) inverse p lp (entries (4 ^ n) lent) (grown_within n grown grown old lent (omega arith) e valid.small) r c l m));
       };
       table = λ r c l m. rows r c l m ∙ ap (λ xs. rotated n inverse p (entries (4 ^ n) xs) r c) e ∙ sym (rotation_rule n inverse p lp d (entries (4 ^ n) old) r c l);
     })
@@ -120,6 +126,7 @@ pub record ReduceDone (n k j grown : ℕ) (old new : List Root2) : Type 0 where
   pub value : SameTable n (scaled (grid n j grown new)) (scaled (grid n k grown old))
   pub least : IsReduced (grid n j grown new)
 
+-- from cells that were divided, over cells that were lent
 pub reduce_done : (n k j grown len : ℕ) (old lent new : List Root2) → IsChannelGrid (grid n k grown old) → lent ≡ old → length lent ≡ len → length new ≡ length lent → j ≤ k
     → ((i : ℕ) → i < length lent → surd_times (root2_to (k - j)) (cell_of new i) ≡ cell_of lent i) → (j ≡ 0) ⊎ ((i : ℕ) × (i < length new) × IsOdd (cell_of new i).a)
     → ReduceDone n k j grown old (take len (new ++ drop (length new) old))
@@ -159,9 +166,11 @@ abbrev pub LinesHaveOneUnit : ℕ → List Root2 → Type 0
 LinesHaveOneUnit size cells =
     ((row : ℕ) → row < size → HasOneUnit size (λ column. entries size cells row column)) × ((column : ℕ) → column < size → HasOneUnit size (λ row. entries size cells row column))
 
+-- from a size and cells that are given by equations
 pub lines_at : (n size : ℕ) (cells lent : List Root2) → size ≡ 4 ^ n → lent ≡ cells → LinesHaveOneUnit size lent → LinesHaveOneUnit (4 ^ n) cells
 lines_at n size cells lent e d h = subst (LinesHaveOneUnit (4 ^ n)) d (subst (λ size. LinesHaveOneUnit size lent) e h)
 
+-- and back
 pub lines_of : (n size : ℕ) (cells lent : List Root2) → size ≡ 4 ^ n → lent ≡ cells → LinesHaveOneUnit (4 ^ n) cells → LinesHaveOneUnit size lent
 lines_of n size cells lent e d h = subst (λ size. LinesHaveOneUnit size lent) (sym e) (subst (LinesHaveOneUnit (4 ^ n)) (sym d) h)
 

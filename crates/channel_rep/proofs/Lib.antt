@@ -8,3 +8,4 @@ pub mod Squares
 pub mod Grids
 pub mod OneUnit
 pub mod OnePower
+pub mod Least

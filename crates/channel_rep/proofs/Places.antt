@@ -1,5 +1,5 @@
 -- Cells at places of a table, after writes to two of its rows.
-use Rattle.std.proofs.Common.{◌≡◌, ◌≢◌, ℕ, ◌+◌, ◌-◌, ◌*◌, ◌<◌, ◌≤◌, List, ◌++◌, length, take, drop, refl, ap, sym, ◌∙◌, arith, subst, inl, inr, get_or, length-append, length-drop}
+use Rattle.std.proofs.Common.{◌≡◌, ◌≢◌, ℕ, ◌+◌, ◌-◌, ◌*◌, ◌<◌, ◌≤◌, List, ◌++◌, length, take, drop, ap, sym, ◌∙◌, arith, subst, inl, inr, get_or, length-append, length-drop}
 use Rattle.std.proofs.lemmas.Bool.{cases_lt}
 use Rattle.std.proofs.lemmas.Nat.{mul-le}
 use Rattle.std.proofs.lemmas.List.{get_or_append_left, get_or-append_right, get_or-take, get_or-drop, length-take-le}
@@ -7,7 +7,8 @@ use borrow.Rule.Slice.PartMut.{put_mid}
 use Rattle.tc_ring.specs.Root2.{surd_of}
 use Rattle.tc_ring.specs.Surds.{Surd, SurdWithin}
 use Rattle.tc_ring.specs.declared.root2.Root2.{Root2}
-use Rattle.channel_rep.specs.Cells.{cell_of, entries, no_cell, ChangesPair, ChangesRow}
+use Rattle.channel_rep.specs.Cells.{cell_of, entries, no_cell}
+use Rattle.channel_rep.specs.Changes.{ChangesPair, ChangesRow}
 
 -- a bound along an equation
 pub within_at : (b : ℕ) (x y : Surd) → x ≡ y → SurdWithin b y → SurdWithin b x
@@ -19,42 +20,56 @@ row_before r s size l = let few : r + 1 ≤ s = omega arith in omega (arith, mul
 
 -- two parts of a list are replaced: x stands at a, and y stands at b behind it
 module _ (cells x y : List Root2) (a k b m : ℕ) (before : a + k ≤ b) (within : b + m ≤ length cells) (long_x : length x ≡ k) (long_y : length y ≡ m) where
+  -- what comes before the second part
   front : List Root2
   front = take b cells
 
+  -- the list once both parts are replaced
   abbrev pub replaced : List Root2
   replaced = put_mid a k (take b cells) x ++ (y ++ drop m (drop b cells))
 
+  -- its length
   length-front : length (take b cells) ≡ b
   length-front = length-take-le b cells (omega arith)
 
+  -- the length of what comes before the first part
   length-start : length (take a (take b cells)) ≡ a
   length-start = length-take-le a (take b cells) (omega (arith, length-front))
 
+  -- the first part keeps its length
   length-mid : length (put_mid a k (take b cells) x) ≡ b
   length-mid =
       omega (
-        arith, length-append (take a (take b cells)) (x ++ drop k (drop a (take b cells))),
-        length-append x (drop k (drop a (take b cells))), length-drop k (drop a (take b cells)), length-drop a (take b cells),
-        length-front, length-start)
+        arith,
+        length-append (take a (take b cells)) (x ++ drop k (drop a (take b cells))),
+        length-append x (drop k (drop a (take b cells))),
+        length-drop k (drop a (take b cells)),
+        length-drop a (take b cells),
+        length-front,
+        length-start,
+      )
 
+  -- a place in the first part
   pub replaced-first : (i : ℕ) → a ≤ i → i < a + k → get_or replaced i no_cell ≡ get_or x (i - a) no_cell
   replaced-first i l h =
       get_or_append_left (put_mid a k (take b cells) x) _ no_cell i (omega (arith, length-mid))
       ∙ get_or-append_right (take a (take b cells)) _ a i no_cell length-start l
       ∙ get_or_append_left x _ no_cell (i - a) (omega arith)
 
+  -- a place in the second part
   pub replaced-second : (i : ℕ) → b ≤ i → i < b + m → get_or replaced i no_cell ≡ get_or y (i - b) no_cell
   replaced-second i l h =
       get_or-append_right (put_mid a k (take b cells) x) _ b i no_cell length-mid l
       ∙ get_or_append_left y _ no_cell (i - b) (omega arith)
 
+  -- a place before both
   pub replaced-before : (i : ℕ) → i < a → get_or replaced i no_cell ≡ get_or cells i no_cell
   replaced-before i l =
       get_or_append_left (put_mid a k (take b cells) x) _ no_cell i (omega (arith, length-mid))
       ∙ get_or_append_left (take a (take b cells)) _ no_cell i (omega (arith, length-start))
       ∙ get_or-take a (take b cells) i no_cell l ∙ get_or-take b cells i no_cell (omega arith)
 
+  -- a place between the two
   pub replaced-between : (i : ℕ) → a + k ≤ i → i < b → get_or replaced i no_cell ≡ get_or cells i no_cell
   replaced-between i l h =
       get_or_append_left (put_mid a k (take b cells) x) _ no_cell i (omega (arith, length-mid))
@@ -64,6 +79,7 @@ module _ (cells x y : List Root2) (a k b m : ℕ) (before : a + k ≤ b) (within
       ∙ ap (λ j. get_or (take b cells) j no_cell) (let e : a + (k + (i - a - k)) ≡ i = omega arith in e)
       ∙ get_or-take b cells i no_cell h
 
+  -- a place behind both
   pub replaced-behind : (i : ℕ) → b + m ≤ i → get_or replaced i no_cell ≡ get_or cells i no_cell
   replaced-behind i l =
       get_or-append_right (put_mid a k (take b cells) x) _ b i no_cell length-mid (omega arith)
@@ -80,12 +96,15 @@ pub record LentRows (size low high : ℕ) (cells x y : List Root2) : Type 0 wher
 
 module _ (size low high k : ℕ) (cells front back : List Root2) (order : low < high) (below : high < size) (whole : length cells ≡ size * size)
     (is_front : front ≡ take (high * size) cells) (is_back : back ≡ drop (high * size) cells) (long_k : k ≡ size) where
+  -- the lower row ends before the higher one begins
   before : low * size + k ≤ high * size
   before = omega (arith, row_before low high size order)
 
+  -- the higher row ends inside the table
   within : high * size + size ≤ length cells
   within = omega (arith, row_before high size size below)
 
+  -- the two slices are the two rows
   pub lent_rows : LentRows size low high cells (take k (drop (low * size) front)) (take size back)
   lent_rows = record {
     low_cells = λ c l. ap surd_of (
@@ -136,15 +155,18 @@ pub record LentRow (size row : ℕ) (cells x : List Root2) : Type 0 where
   pub row_length : length x ≡ size
 
 module _ (size row k : ℕ) (cells : List Root2) (below : row < size) (whole : length cells ≡ size * size) (long_k : k ≡ size) where
+  -- the row ends inside the table
   inside : row * size + size ≤ length cells
   inside = omega (arith, row_before row size size below)
 
+  -- the slice is the row
   pub lent_row : LentRow size row cells (take k (drop (row * size) cells))
   lent_row = record {
     cells_of_row = λ c l. ap surd_of (get_or-take k (drop (row * size) cells) c no_cell (omega arith) ∙ get_or-drop (row * size) cells c no_cell);
     row_length = length-take-le k (drop (row * size) cells) (omega (arith, length-drop (row * size) cells, inside)) ∙ long_k;
   }
 
+  -- the table once the row is given back
   pub row_given_back : (x : List Root2) → length x ≡ size → ChangesRow size row (cell_of x) cells (put_mid (row * size) k cells x)
   row_given_back x long =
       record { row_is = row_is; others = others }
@@ -156,8 +178,8 @@ module _ (size row k : ℕ) (cells : List Root2) (below : row < size) (whole : l
       row_is c l =
           let e : row * size + c - row * size ≡ c = omega arith in
           ap surd_of (
-            get_or-append_right (take (row * size) cells) _ (row * size) (row * size + c) no_cell start (omega arith)
-            ∙ get_or_append_left x _ no_cell (row * size + c - row * size) (omega (arith, long)) ∙ ap (λ j. get_or x j no_cell) e)
+          get_or-append_right (take (row * size) cells) _ (row * size) (row * size + c) no_cell start (omega arith)
+          ∙ get_or_append_left x _ no_cell (row * size + c - row * size) (omega (arith, long)) ∙ ap (λ j. get_or x j no_cell) e)
 
       others : (r c : ℕ) → r < size → c < size → r ≢ row → entries size (put_mid (row * size) k cells x) r c ≡ entries size cells r c
       others r c l m d = elim (cases_lt r row) [
@@ -169,11 +191,12 @@ module _ (size row k : ℕ) (cells : List Root2) (below : row < size) (whole : l
             let past : row * size + size ≤ r * size + c = omega (arith, row_before row r size apart) in
             let e : row * size + (k + (r * size + c - row * size - k)) ≡ r * size + c = omega arith in
             ap surd_of (
-              get_or-append_right (take (row * size) cells) _ (row * size) (r * size + c) no_cell start (omega arith)
-              ∙ get_or-append_right x _ k (r * size + c - row * size) no_cell (long ∙ sym long_k) (omega arith)
-              ∙ get_or-drop k (drop (row * size) cells) (r * size + c - row * size - k) no_cell
-              ∙ get_or-drop (row * size) cells (k + (r * size + c - row * size - k)) no_cell ∙ ap (λ j. get_or cells j no_cell) e)
+            get_or-append_right (take (row * size) cells) _ (row * size) (r * size + c) no_cell start (omega arith)
+            ∙ get_or-append_right x _ k (r * size + c - row * size) no_cell (long ∙ sym long_k) (omega arith)
+            ∙ get_or-drop k (drop (row * size) cells) (r * size + c - row * size - k) no_cell
+            ∙ get_or-drop (row * size) cells (k + (r * size + c - row * size - k)) no_cell ∙ ap (λ j. get_or cells j no_cell) e)
       ]
 
+-- another equation of the row
 pub changes_row_to : (size row : ℕ) (a b : ℕ → Surd) (old new : List Root2) → ((c : ℕ) → c < size → a c ≡ b c) → ChangesRow size row a old new → ChangesRow size row b old new
 changes_row_to size row a b old new e h = record { row_is = λ c l. h.row_is c l ∙ e c l; others = h.others }

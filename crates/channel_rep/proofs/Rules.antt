@@ -1,11 +1,11 @@
 -- A step's table times a table is the rule by rows.
-use Rattle.std.proofs.Common.{◌≡◌, ◌≢◌, ℕ, ◌+◌, ◌*◌, ◌^◌, ◌<◌, ◌≤◌, Bool, true, false, not, eqb, cond, refl, ap, sym, ◌∙◌, subst, inl, inr, arith}
-use Rattle.std.specs.Prelude.{pos, if◌then◌else◌}
-use Rattle.std.proofs.lemmas.Bool.{cond-true, cond-false, ne_eqb, eq-eqb, cases_eq, cases_Bool}
+use Rattle.std.proofs.Common.{◌≡◌, ◌≢◌, ℕ, ◌+◌, ◌*◌, ◌^◌, ◌<◌, ◌≤◌, Bool, true, false, not, eqb, refl, ap, sym, ◌∙◌, inl, inr, arith}
+use Rattle.std.specs.Prelude.{if◌then◌else◌}
+use Rattle.std.proofs.lemmas.Bool.{cond-true, cond-false, ne_eqb, eq-eqb, cases_eq}
 use Rattle.ring_laws.specs.Matrix.{sum, product, identity}
-use Rattle.ring_laws.proofs.Ring.{add-mul, mul_left_comm, zero-mul, mul-zero}
+use Rattle.ring_laws.proofs.Ring.{add-mul, mul-zero}
 use Rattle.ring_laws.proofs.Sums.{sum_cong, sum-add, mul-sum, identity-product}
-use Rattle.tc_ring.specs.Surds.{Surd, surds, surd_plus, surd_times, surd_negative, zero_surd, one_surd, root2_surd, SurdWithin}
+use Rattle.tc_ring.specs.Surds.{Surd, surds, surd_plus, surd_times, zero_surd, one_surd, root2_surd, SurdWithin}
 use Rattle.tc_ring.proofs.Surds.{surds_laws, surd_plus-zero, surd_times_assoc, surd_within_more, surd_within_plus, surd_within_root2}
 use Rattle.pauli_basis.specs.Products.{product_code, commute, anti_sign}
 use Rattle.pauli_basis.proofs.Products.{product_code-lt, product_code-back, product_code-apart, commute-back, anti_sign-back}
@@ -21,6 +21,7 @@ pub one_at : (r c : ℕ) → r ≡ c → identity surds r c ≡ one_surd
 unfolding identity
 one_at r c e = cond-true (eqb r c) one_surd zero_surd (eq-eqb r c e)
 
+-- off the diagonal
 pub zero_at : (r c : ℕ) → r ≢ c → identity surds r c ≡ zero_surd
 unfolding identity
 zero_at r c d = cond-false (eqb r c) one_surd zero_surd (ne_eqb r c d)
@@ -56,8 +57,8 @@ gate_rule n some few g fits m r c l =
     entry k h =
         ap (signed (image n g k).is_negative)
         (same_entry r (image n g k).code from k
-          (λ e. ap (λ x. (image n g x).code) e ∙ image-image n some few g fits k h)
-          (λ e. sym (image-image n some few g fits r l) ∙ ap (λ x. (image n g x).code) e))
+        (λ e. ap (λ x. (image n g x).code) e ∙ image-image n some few g fits k h)
+        (λ e. sym (image-image n some few g fits r l) ∙ ap (λ x. (image n g x).code) e))
         ∙ elim (cases_eq k from) [
           | inl e ↦ ap (λ x. signed (image n g x).is_negative (identity surds from k)) e
           | inr d ↦
@@ -70,6 +71,7 @@ gate_rule n some few g fits m r c l =
 abbrev entry_of : Bool → Surd → Bool → Surd → Surd
 entry_of b x s y = if b then surd_times root2_surd x else surd_plus x (signed s y)
 
+-- an entry of two zeros
 both_zero : (b s : Bool) (x y : Surd) → x ≡ zero_surd → y ≡ zero_surd → entry_of b x s y ≡ zero_surd
 both_zero true s x y e d = ap (surd_times root2_surd) e ∙ mul-zero surds_laws root2_surd
 both_zero false s x y e d = (λ i. surd_plus (e i) (signed s (d i))) ∙ ap (surd_plus zero_surd) (signed-zero s) ∙ surd_plus-zero zero_surd
@@ -112,6 +114,7 @@ row_entry n inverse p r k d =
         (λ e. ap (product_code p) e ∙ product_code-back p k)
         (λ e. sym (product_code-back p r) ∙ ap (product_code p) e)
 
+-- a rotation's table times a table is the rule by rows
 pub rotation_rule : (n : ℕ) (inverse : Bool) (p : ℕ) → p < 4 ^ n → p ≢ 0 → (m : SurdTable) (r c : ℕ) → r < 4 ^ n → product surds (4 ^ n) (rotation_table n inverse p) m r c ≡ rotated n inverse p m r c
 unfolding product rotated
 rotation_rule n inverse p lp d m r c l =
@@ -138,6 +141,7 @@ pub moved_within : (n a : ℕ) → 0 < n → n ≤ 3 → (g : ChannelGate) → F
 unfolding moved
 moved_within n a some few g fits m small r c l h = signed_within a _ _ (small _ c (image-lt n some few g fits r l) h)
 
+-- a rotation at most doubles the bound
 pub rotated_within : (n a : ℕ) (inverse : Bool) (p : ℕ) → p < 4 ^ n → (m : SurdTable) → ((r c : ℕ) → r < 4 ^ n → c < 4 ^ n → SurdWithin a (m r c))
     → (r c : ℕ) → r < 4 ^ n → c < 4 ^ n → SurdWithin (2 * a) (rotated n inverse p m r c)
 unfolding rotated

@@ -1,26 +1,29 @@
 -- Numbers with a sign.
 use Rattle.std.proofs.Common.{◌≡◌, ℕ, Bool, true, false, not, refl, ap, sym, ◌∙◌}
-use Rattle.std.specs.Prelude.{pos}
 use Rattle.ring_laws.proofs.Ring.{one-mul, neg-mul}
-use Rattle.tc_ring.specs.Surds.{Surd, surd_integer, surd_plus, surd_times, surd_negative, zero_surd, one_surd, SurdWithin}
+use Rattle.tc_ring.specs.Surds.{Surd, surd_integer, surd_times, surd_negative, zero_surd, one_surd, SurdWithin}
 use Rattle.tc_ring.proofs.Surds.{surds_laws, surd_within_negative}
-use Rattle.channel_rep.specs.Tables.{signed, turned_over}
+use Rattle.channel_rep.specs.Tables.{signed}
 
+-- with the sign
 pub signed-true : (b : Bool) (x : Surd) → b ≡ true → surd_negative x ≡ signed b x
 unfolding signed
 signed-true true x e = refl
 signed-true false x e = absurd cc
 
+-- without it
 pub signed-false : (b : Bool) (x : Surd) → b ≡ false → x ≡ signed b x
 unfolding signed
 signed-false true x e = absurd cc
 signed-false false x e = refl
 
+-- without it, by the opposite flag
 pub signed-not_true : (b : Bool) (x : Surd) → b ≡ true → x ≡ signed (not b) x
 unfolding signed
 signed-not_true true x e = refl
 signed-not_true false x e = absurd cc
 
+-- with it, by the opposite flag
 pub signed-not_false : (b : Bool) (x : Surd) → b ≡ false → surd_negative x ≡ signed (not b) x
 unfolding signed
 signed-not_false true x e = absurd cc
@@ -32,11 +35,13 @@ unfolding signed
 signed_is true x = sym (neg-mul surds_laws one_surd x ∙ ap surd_negative (one-mul surds_laws x))
 signed_is false x = sym (one-mul surds_laws x)
 
+-- zero has no sign
 pub signed-zero : (b : Bool) → signed b zero_surd ≡ zero_surd
 unfolding signed surd_negative surd_integer
 signed-zero true = refl
 signed-zero false = refl
 
+-- a sign keeps the bound
 pub signed_within : (a : ℕ) (b : Bool) (x : Surd) → SurdWithin a x → SurdWithin a (signed b x)
 unfolding signed
 signed_within a true x h = surd_within_negative a x h

@@ -1,6 +1,6 @@
 -- The Clifford gates h, s, sdg and cx, and what conjugation by them makes of a Pauli operator: g·P·g† as a Pauli with a
 -- sign. Source: Gottesman, The Heisenberg representation of quantum computers, 1998; Nielsen and Chuang, section 10.5.2.
-use Rattle.std.specs.Prelude.{ℕ, zero, suc, ◌+◌, ◌*◌, ◌%◌, ◌^◌, ◌<◌, ◌≢◌, ◌==◌, Bool, true, false, bit_xor, if◌then◌else◌}
+use Rattle.std.specs.Prelude.{ℕ, zero, suc, ◌+◌, ◌*◌, ◌%◌, ◌^◌, ◌<◌, ◌≢◌, ◌==◌, true, false, bit_xor, if◌then◌else◌}
 use Rattle.pauli_basis.specs.Letters.{letter_of}
 use Rattle.pauli_basis.specs.Products.{Signed, product_code, turns}
 use Rattle.channel_rep.specs.declared.gate.ChannelGate.{ChannelGate}

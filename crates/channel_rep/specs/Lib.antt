@@ -2,3 +2,4 @@ pub mod Gates
 pub mod Tables
 pub mod Rows
 pub mod Cells
+pub mod Changes

@@ -1,4 +1,5 @@
--- A step's table times a table, row by row: a rotation adds and subtracts rows in pairs, and a gate moves them.
+-- A step's table times a table, row by row: a rotation adds and subtracts rows in pairs, and a gate moves them. That
+-- these are the products is a lemma. Source: Gosset, Kliuchnikov, Mosca and Russo 2014, section 2.3.
 use Rattle.std.specs.Prelude.{ℕ, min, Bool, not, if◌then◌else◌}
 use Rattle.tc_ring.specs.Surds.{surd_plus, surd_times, root2_surd}
 use Rattle.pauli_basis.specs.Products.{product_code, commute, anti_sign}

@@ -5,7 +5,7 @@ ghost use Rattle.tc_ring.specs.Root2.{surd_of};
 ghost use Rattle.tc_ring.specs.Surds.{surds, SurdWithin, one_surd};
 ghost use Rattle.channel_rep.specs.Cells.{entries, cell_of};
 ghost use Rattle.channel_rep.specs.Gates.{Fits};
-ghost use Rattle.channel_rep.specs.Tables.{Step, by_gate, by_rotation, by_inverse_rotation, gate_table, rotation_table, signed, SameTable, IsBuiltOf};
+ghost use Rattle.channel_rep.specs.Tables.{Step, by_gate, by_rotation, by_inverse_rotation, gate_table, rotation_table, signed, ScaledTable, SameTable, IsBuiltOf};
 
 use crate::ChannelGate;
 use crate::halves::divide_out;
@@ -32,7 +32,8 @@ fn identity_cell(row: usize, column: usize) -> Root2
 fn identity_cells(alloc: Global, n: u8) -> Result<Vec<Root2>, AllocError>
     requires few { n ≤ 3 }
     ensures whole { IfOk result (λ cells. length cells.items ≡ 4 ^ n * 4 ^ n) }
-    ensures identity { IfOk result (λ cells. Agree surds (4 ^ n) (entries (4 ^ n) cells.items) (identity surds)) }
+    ensures identity { IfOk result (λ cells.
+        Agree surds (4 ^ n) (entries (4 ^ n) cells.items) (identity surds)) }
 {
     let size = codes(n);
     let mut cells = Vec::with_capacity(alloc, size * size)?;
@@ -62,11 +63,12 @@ impl Model for Channel {
 
     ghost view = { λ m. record { qubits = m.n; exponent = m.k; grown = m.grown; cells = m.cells.items } };
 
-    ghost invariant = { λ m. IsChannelGrid (record { qubits = m.n; exponent = m.k; grown = m.grown; cells = m.cells.items }) };
+    ghost invariant = { λ m. IsChannelGrid
+        (record { qubits = m.n; exponent = m.k; grown = m.grown; cells = m.cells.items }) };
 }
 
 impl Channel {
-    ghost use Rattle.channel_rep.specs.Cells.{table_of, scaled, IsReduced, IsSignedPermutation};
+    ghost use Rattle.channel_rep.specs.Cells.{table_of, scaled, IsChannelGrid, IsReduced, IsSignedPermutation};
 
     /// The identity on n qubits, with exponent 0.
     pub fn identity(alloc: Global, n: u8) -> Result<Channel, AllocError>
@@ -102,7 +104,7 @@ impl Channel {
     }
 
     /// Makes the channel into the rotation's channel times it, in place, or into that of the rotation's inverse.
-    fn turn(&mut self, p: &Pauli, inverse: bool)
+    fn rotate(&mut self, p: &Pauli, inverse: bool)
         requires same { p.now.qubits ≡ self.old.qubits }
         requires other { p.now.code ≢ 0 }
         requires room { self.old.grown < 62 }
@@ -110,7 +112,8 @@ impl Channel {
         ensures exponent { self.new.exponent ≡ 1 + self.old.exponent }
         ensures grown { self.new.grown ≡ 1 + self.old.grown }
         ensures table { Agree surds (4 ^ self.old.qubits) (table_of self.new)
-            (product surds (4 ^ self.old.qubits) (rotation_table self.old.qubits inverse p.now.code) (table_of self.old)) }
+            (product surds (4 ^ self.old.qubits)
+            (rotation_table self.old.qubits inverse p.now.code) (table_of self.old)) }
     {
         rotate_rows(&mut self.cells, p, inverse);
         self.k += 1;
@@ -126,11 +129,12 @@ impl Channel {
         ensures exponent { self.new.exponent ≡ 1 + self.old.exponent }
         ensures grown { self.new.grown ≡ 1 + self.old.grown }
         ensures table { Agree surds (4 ^ self.old.qubits) (table_of self.new)
-            (product surds (4 ^ self.old.qubits) (rotation_table self.old.qubits false p.code) (table_of self.old)) }
+            (product surds (4 ^ self.old.qubits)
+            (rotation_table self.old.qubits false p.code) (table_of self.old)) }
         ensures built { (steps : List Step) → IsBuiltOf self.old.qubits steps (scaled self.old)
             → IsBuiltOf self.old.qubits (steps ++ by_rotation p.code ∷ []) (scaled self.new) }
     {
-        self.turn(&p, false);
+        self.rotate(&p, false);
     }
 
     /// Makes the channel into that of the inverse of the rotation R(p) times it, in place.
@@ -142,11 +146,12 @@ impl Channel {
         ensures exponent { self.new.exponent ≡ 1 + self.old.exponent }
         ensures grown { self.new.grown ≡ 1 + self.old.grown }
         ensures table { Agree surds (4 ^ self.old.qubits) (table_of self.new)
-            (product surds (4 ^ self.old.qubits) (rotation_table self.old.qubits true p.code) (table_of self.old)) }
+            (product surds (4 ^ self.old.qubits)
+            (rotation_table self.old.qubits true p.code) (table_of self.old)) }
         ensures built { (steps : List Step) → IsBuiltOf self.old.qubits steps (scaled self.old)
             → IsBuiltOf self.old.qubits (steps ++ by_inverse_rotation p.code ∷ []) (scaled self.new) }
     {
-        self.turn(&p, true);
+        self.rotate(&p, true);
     }
 
     /// The number of qubits, 1 to 3.
@@ -154,6 +159,7 @@ impl Channel {
         ensures value { result ≡ self.now.qubits }
         ensures some { 0 < result }
         ensures few { result ≤ 3 }
+        ensures valid { IsChannelGrid self.now }
     {
         self.n
     }
@@ -195,7 +201,9 @@ impl Channel {
         ensures grown { self.new.grown ≡ self.old.grown }
         ensures exponent { self.new.exponent ≤ self.old.exponent }
         ensures value { SameTable self.old.qubits (scaled self.new) (scaled self.old) }
-        ensures least { IsReduced self.new }
+        ensures reduced { IsReduced self.new }
+        ensures least { (m : ScaledTable) → SameTable self.old.qubits m (scaled self.new)
+            → self.new.exponent ≤ m.exponent }
         ensures built { (steps : List Step) → IsBuiltOf self.old.qubits steps (scaled self.old)
             → IsBuiltOf self.old.qubits steps (scaled self.new) }
     {

@@ -1,5 +1,5 @@
 // The Clifford gates of a circuit, and what conjugation by them makes of a Pauli operator.
-ghost use Rattle.std.specs.Prelude.{◌≡◌, ◌≢◌, ℕ, ◌*◌, ◌^◌, ◌<◌, ◌≤◌, ◌↔◌, ◌⊎◌, IsTrue};
+ghost use Rattle.std.specs.Prelude.{◌≡◌, ◌≢◌, ℕ, ◌^◌, ◌<◌, ◌≤◌};
 ghost use Rattle.pauli_basis.specs.Letters.{letter_of};
 ghost use Rattle.channel_rep.specs.Gates.{h_letter, s_letter, sdg_letter, with_letter, cx_image};
 
@@ -87,8 +87,10 @@ fn cx_image(control: u8, target: u8, code: u8) -> (u8, bool)
     requires target { target < 3 }
     requires apart { control ≢ target }
     requires code { code < 64 }
-    ensures code { (n : ℕ) → n ≤ 3 → control < n → target < n → code < 4 ^ n → result.0 ≡ (cx_image n control target code).code }
-    ensures sign { (n : ℕ) → n ≤ 3 → control < n → target < n → code < 4 ^ n → result.1 ≡ (cx_image n control target code).is_negative }
+    ensures code { (n : ℕ) → n ≤ 3 → control < n → target < n → code < 4 ^ n
+        → result.0 ≡ (cx_image n control target code).code }
+    ensures sign { (n : ℕ) → n ≤ 3 → control < n → target < n → code < 4 ^ n
+        → result.1 ≡ (cx_image n control target code).is_negative }
 {
     let c = letter_of(code, control);
     let t = letter_of(code, target);
@@ -106,11 +108,13 @@ impl ChannelGate {
     ghost use Rattle.channel_rep.specs.Gates.{image, Fits};
 
     /// What conjugation by the gate makes of a code, g·P·g†, and whether with a negative sign.
-    pub fn image(self, code: u8) -> (u8, bool)
+    pub(crate) fn image(self, code: u8) -> (u8, bool)
         requires fits { Fits 3 self }
         requires code { code < 64 }
-        ensures code { (n : ℕ) → n ≤ 3 → Fits n self → code < 4 ^ n → result.0 ≡ (image n self code).code }
-        ensures sign { (n : ℕ) → n ≤ 3 → Fits n self → code < 4 ^ n → result.1 ≡ (image n self code).is_negative }
+        ensures code { (n : ℕ) → n ≤ 3 → Fits n self → code < 4 ^ n
+            → result.0 ≡ (image n self code).code }
+        ensures sign { (n : ℕ) → n ≤ 3 → Fits n self → code < 4 ^ n
+            → result.1 ≡ (image n self code).is_negative }
     {
         match self {
             ChannelGate::H(q) => {

@@ -8,7 +8,8 @@ use tc_ring::Root2;
 
 /// Whether the whole part of each cell is even, so that all cells can be divided by √2.
 fn all_even(cells: &[Root2]) -> bool
-    ensures even { IsTrue result → (k : ℕ) → k < length cells.now → nat_abs (cell_of cells.now k).a % 2 ≡ 0 }
+    ensures even { IsTrue result → (k : ℕ) → k < length cells.now
+        → nat_abs (cell_of cells.now k).a % 2 ≡ 0 }
     ensures odd { result ≡ false → (k : ℕ) × (k < length cells.now) × IsOdd (cell_of cells.now k).a }
 {
     for cell in cells {
@@ -22,7 +23,8 @@ fn all_even(cells: &[Root2]) -> bool
 /// Divides each cell by √2.
 fn halve(cells: &mut [Root2])
     requires { (k : ℕ) → k < length cells.old → nat_abs (cell_of cells.old k).a % 2 ≡ 0 }
-    ensures { (k : ℕ) → k < length cells.old → surd_times root2_surd (cell_of cells.new k) ≡ cell_of cells.old k }
+    ensures { (k : ℕ) → k < length cells.old
+        → surd_times root2_surd (cell_of cells.new k) ≡ cell_of cells.old k }
 {
     for cell in cells.iter_mut() {
         if let Some(half) = cell.half_root2() {

@@ -1,9 +1,10 @@
-// Rows of cells, changed in place.
+// Rows of cells, changed in place. A pair of rows is lent once, and the loop over the two has no test in it.
 ghost use Rattle.std.specs.Prelude.{◌≡◌, ◌≢◌, ℕ, ◌+◌, ◌*◌, ◌^◌, ◌<◌, ◌≤◌, length, if◌then◌else◌, true, false, not};
 ghost use Rattle.tc_ring.specs.Root2.{surd_of};
 ghost use Rattle.tc_ring.specs.Surds.{surd_plus, surd_negative, surd_times, root2_surd, SurdWithin};
 ghost use Rattle.channel_rep.specs.Tables.{signed};
-ghost use Rattle.channel_rep.specs.Cells.{cell_of, entries, RowWithin, ChangesPair, ChangesRow};
+ghost use Rattle.channel_rep.specs.Cells.{cell_of, entries, RowWithin};
+ghost use Rattle.channel_rep.specs.Changes.{ChangesPair, ChangesRow};
 
 use tc_ring::Root2;
 
@@ -12,8 +13,10 @@ fn subtract_and_add(x: &mut [Root2], y: &mut [Root2])
     requires same { length x.old ≡ length y.old }
     requires small_x { RowWithin (2 ^ 61) x.old }
     requires small_y { RowWithin (2 ^ 61) y.old }
-    ensures x { (k : ℕ) → k < length x.old → cell_of x.new k ≡ surd_plus (cell_of x.old k) (surd_negative (cell_of y.old k)) }
-    ensures y { (k : ℕ) → k < length x.old → cell_of y.new k ≡ surd_plus (cell_of y.old k) (cell_of x.old k) }
+    ensures x { (k : ℕ) → k < length x.old
+        → cell_of x.new k ≡ surd_plus (cell_of x.old k) (surd_negative (cell_of y.old k)) }
+    ensures y { (k : ℕ) → k < length x.old
+        → cell_of y.new k ≡ surd_plus (cell_of y.old k) (cell_of x.old k) }
 {
     for k in 0..x.len() {
         let first = x[k];
@@ -26,7 +29,8 @@ fn subtract_and_add(x: &mut [Root2], y: &mut [Root2])
 /// Multiplies a row by √2.
 fn multiply_by_root2(row: &mut [Root2])
     requires { RowWithin (2 ^ 61) row.old }
-    ensures { (k : ℕ) → k < length row.old → cell_of row.new k ≡ surd_times root2_surd (cell_of row.old k) }
+    ensures { (k : ℕ) → k < length row.old
+        → cell_of row.new k ≡ surd_times root2_surd (cell_of row.old k) }
 {
     for cell in row.iter_mut() {
         *cell = cell.times_root2();
@@ -71,7 +75,14 @@ pub fn turn_pair(cells: &mut [Root2], size: usize, low: usize, high: usize, low_
 }
 
 /// Swaps two rows, and turns the signs of those that are to be negative in their new places.
-pub fn swap_pair(cells: &mut [Root2], size: usize, low: usize, high: usize, low_negative: bool, high_negative: bool)
+pub fn swap_pair(
+    cells: &mut [Root2],
+    size: usize,
+    low: usize,
+    high: usize,
+    low_negative: bool,
+    high_negative: bool,
+)
     requires order { low < high }
     requires below { high < size }
     requires whole { length cells.old ≡ size * size }
@@ -97,7 +108,8 @@ pub fn scale_row(cells: &mut [Root2], size: usize, row: usize)
     requires whole { length cells.old ≡ size * size }
     requires small { (c : ℕ) → c < size → SurdWithin (2 ^ 61) (entries size cells.old row c) }
     ensures whole { length cells.new ≡ size * size }
-    ensures row { ChangesRow size row (λ c. surd_times root2_surd (entries size cells.old row c)) cells.old cells.new }
+    ensures row { ChangesRow size row (λ c. surd_times root2_surd (entries size cells.old row c))
+        cells.old cells.new }
 {
     multiply_by_root2(&mut cells[row * size..(row + 1) * size]);
 }
@@ -108,7 +120,8 @@ pub fn sign_row(cells: &mut [Root2], size: usize, row: usize, negative: bool)
     requires whole { length cells.old ≡ size * size }
     requires small { (c : ℕ) → c < size → SurdWithin (2 ^ 62) (entries size cells.old row c) }
     ensures whole { length cells.new ≡ size * size }
-    ensures row { ChangesRow size row (λ c. signed negative (entries size cells.old row c)) cells.old cells.new }
+    ensures row { ChangesRow size row (λ c. signed negative (entries size cells.old row c))
+        cells.old cells.new }
 {
     negate_if(&mut cells[row * size..(row + 1) * size], negative);
 }

@@ -1,6 +1,7 @@
 // Steps on a table, row by row.
 ghost use Rattle.std.specs.Prelude.{◌≡◌, ℕ, ◌+◌, ◌*◌, ◌^◌, ◌<◌, ◌≤◌, length};
-ghost use Rattle.channel_rep.specs.Cells.{entries, EntriesWithin, ChangesRows};
+ghost use Rattle.channel_rep.specs.Cells.{entries, EntriesWithin};
+ghost use Rattle.channel_rep.specs.Changes.{ChangesRows};
 ghost use Rattle.channel_rep.specs.Rows.{rotated, moved, rotation_turn, gate_turn};
 ghost use Rattle.channel_rep.specs.Gates.{Fits};
 ghost use Rattle.tc_ring.specs.Surds.{SurdWithin};
@@ -23,10 +24,12 @@ pub fn codes(n: u8) -> usize
 fn rotate_row(cells: &mut [Root2], p: &Pauli, inverse: bool, row: usize)
     requires below { row < 4 ^ p.now.qubits }
     requires whole { length cells.old ≡ 4 ^ p.now.qubits * 4 ^ p.now.qubits }
-    requires small { (r c : ℕ) → r < 4 ^ p.now.qubits → c < 4 ^ p.now.qubits → rotation_turn p.now.qubits p.now.code r ≡ row
+    requires small { (r c : ℕ) → r < 4 ^ p.now.qubits → c < 4 ^ p.now.qubits
+        → rotation_turn p.now.qubits p.now.code r ≡ row
         → SurdWithin (2 ^ 61) (entries (4 ^ p.now.qubits) cells.old r c) }
     ensures whole { length cells.new ≡ 4 ^ p.now.qubits * 4 ^ p.now.qubits }
-    ensures change { ChangesRows (4 ^ p.now.qubits) (rotation_turn p.now.qubits p.now.code) row (rotated p.now.qubits inverse p.now.code) cells.old cells.new }
+    ensures change { ChangesRows (4 ^ p.now.qubits) (rotation_turn p.now.qubits p.now.code) row
+        (rotated p.now.qubits inverse p.now.code) cells.old cells.new }
 {
     let n = p.qubits();
     let size = codes(n);
@@ -51,7 +54,8 @@ pub fn rotate_rows(cells: &mut [Root2], p: &Pauli, inverse: bool)
     ensures whole { length cells.new ≡ 4 ^ p.now.qubits * 4 ^ p.now.qubits }
     ensures code { p.now.code < 4 ^ p.now.qubits }
     ensures rows { (r c : ℕ) → r < 4 ^ p.now.qubits → c < 4 ^ p.now.qubits
-        → entries (4 ^ p.now.qubits) cells.new r c ≡ rotated p.now.qubits inverse p.now.code (entries (4 ^ p.now.qubits) cells.old) r c }
+        → entries (4 ^ p.now.qubits) cells.new r c
+        ≡ rotated p.now.qubits inverse p.now.code (entries (4 ^ p.now.qubits) cells.old) r c }
 {
     for row in 0..codes(p.qubits()) {
         rotate_row(cells, p, inverse, row);
@@ -66,7 +70,8 @@ fn move_row(cells: &mut [Root2], n: u8, gate: ChannelGate, row: usize)
     requires fits { Fits n gate }
     requires below { row < 4 ^ n }
     requires whole { length cells.old ≡ 4 ^ n * 4 ^ n }
-    requires small { (r c : ℕ) → r < 4 ^ n → c < 4 ^ n → gate_turn n gate r ≡ row → SurdWithin (2 ^ 62) (entries (4 ^ n) cells.old r c) }
+    requires small { (r c : ℕ) → r < 4 ^ n → c < 4 ^ n → gate_turn n gate r ≡ row
+        → SurdWithin (2 ^ 62) (entries (4 ^ n) cells.old r c) }
     ensures whole { length cells.new ≡ 4 ^ n * 4 ^ n }
     ensures change { ChangesRows (4 ^ n) (gate_turn n gate) row (moved n gate) cells.old cells.new }
 {
@@ -89,7 +94,8 @@ pub fn move_rows(cells: &mut [Root2], n: u8, gate: ChannelGate)
     requires whole { length cells.old ≡ 4 ^ n * 4 ^ n }
     requires small { EntriesWithin (2 ^ 62) (4 ^ n) cells.old }
     ensures whole { length cells.new ≡ 4 ^ n * 4 ^ n }
-    ensures rows { (r c : ℕ) → r < 4 ^ n → c < 4 ^ n → entries (4 ^ n) cells.new r c ≡ moved n gate (entries (4 ^ n) cells.old) r c }
+    ensures rows { (r c : ℕ) → r < 4 ^ n → c < 4 ^ n
+        → entries (4 ^ n) cells.new r c ≡ moved n gate (entries (4 ^ n) cells.old) r c }
 {
     for row in 0..codes(n) {
         move_row(cells, n, gate, row);

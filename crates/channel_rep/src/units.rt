@@ -9,7 +9,9 @@ use crate::rows::cell_at;
 use tc_ring::Root2;
 
 const ZERO: Root2 = Root2 { a: 0, b: 0 };
+
 const ONE: Root2 = Root2 { a: 1, b: 0 };
+
 const MINUS_ONE: Root2 = Root2 { a: -1, b: 0 };
 
 /// Whether a number is 0.
@@ -63,7 +65,7 @@ pub fn is_signed_permutation(cells: &[Root2], size: usize) -> bool
     requires { length cells.now ≡ size * size }
     ensures { IsTrue result
         ↔ (((row : ℕ) → row < size → HasOneUnit size (λ column. entries size cells.now row column))
-            × ((column : ℕ) → column < size → HasOneUnit size (λ row. entries size cells.now row column))) }
+        × ((column : ℕ) → column < size → HasOneUnit size (λ row. entries size cells.now row column))) }
 {
     all_have_one_unit(cells, size, size, 1) && all_have_one_unit(cells, size, 1, size)
 }

@@ -8,6 +8,7 @@ use Rattle.pauli_basis.proofs.Small.{all, all_at2, all_at3}
 pub low-lt : (code : ℕ) → code % 4 < 4
 low-lt code = mod-lt code {m = 4} (lit< tt)
 
+-- a letter is one of four
 pub letter_of-lt : (q code : ℕ) → letter_of q code < 4
 letter_of-lt q code = low-lt (code / 4 ^ q)
 
@@ -33,6 +34,7 @@ letter_turns-parity = letters_agree (λ l m. letter_turns l m % 2) letter_clash 
 pub letter_turns-swap : (l m : ℕ) → l < 4 → m < 4 → (letter_turns l m + letter_turns m l) % 4 ≡ 0
 letter_turns-swap = letters_agree (λ l m. (letter_turns l m + letter_turns m l) % 4) (λ l m. 0) tt
 
+-- letters clash both ways round
 pub letter_clash-swap : (l m : ℕ) → l < 4 → m < 4 → letter_clash l m ≡ letter_clash m l
 letter_clash-swap = letters_agree letter_clash (λ l m. letter_clash m l) tt
 
@@ -40,6 +42,7 @@ letter_clash-swap = letters_agree letter_clash (λ l m. letter_clash m l) tt
 pub letter_turns-back : (l m : ℕ) → l < 4 → m < 4 → (letter_turns l (bit_xor l m) + letter_turns l m) % 4 ≡ 0
 letter_turns-back = letters_agree (λ l m. (letter_turns l (bit_xor l m) + letter_turns l m) % 4) (λ l m. 0) tt
 
+-- l clashes with l·m where it clashes with m
 pub letter_clash-back : (l m : ℕ) → l < 4 → m < 4 → letter_clash l (bit_xor l m) ≡ letter_clash l m
 letter_clash-back = letters_agree (λ l m. letter_clash l (bit_xor l m)) letter_clash tt
 

@@ -13,9 +13,11 @@ use Rattle.pauli_basis.proofs.Products.{turns-wide, turns-parity}
 abbrev clash_mask : ℕ → ℕ → ℕ
 clash_mask p q = bit_and (bit_xor (bit_and p (q / 2)) (bit_and (p / 2) q)) 85
 
+-- the low bit of each letter at which the two clash with three turns
 abbrev reversed_mask : ℕ → ℕ → ℕ
 reversed_mask p q = bit_and (clash_mask p q) (bit_xor (p / 2) (bit_and q (bit_or p (q / 2))))
 
+-- one turn for each clash, and two more where it is reversed, at all pairs of codes
 reversed_masks : T (all 64 (λ p. all 64 (λ q. eqb ((count_ones (clash_mask p q) + 2 * count_ones (reversed_mask p q)) % 4) (turns 3 p q % 4))))
 unfolding turns ones
 reversed_masks = tt
@@ -37,10 +39,12 @@ turns-three n p q few h g = let all_three : 3 ≡ n + (3 - n) = omega arith in a
 pub turned : (n m p q t : ℕ) → IsPauliCode n p → IsPauliCode m q → n ≡ m → t ≡ turns 3 p q % 4 → t ≡ turns n p q % 4
 turned n m p q t h g e d = d ∙ ap (λ t. t % 4) (turns-three n p q h.few h.below (subst (λ m. q < 4 ^ m) (sym e) g.below))
 
+-- even turns mean that the two commute
 pub commutes_by_turns : (n p q t : ℕ) → t ≡ turns n p q % 4 → (t % 2 == 0) ≡ commute n p q
 unfolding commute
 commutes_by_turns n p q t d = let parity : t % 2 ≡ clashes n p q % 2 = omega (arith, turns-parity n p q) in ap (λ x. x == 0) parity
 
+-- three turns mean that −i·P·Q is negative
 pub negative_by_turns : (n p q t : ℕ) → t ≡ turns n p q % 4 → (t == 3) ≡ anti_sign n p q
 unfolding anti_sign
 negative_by_turns n p q t d = by (t == 3) refl

@@ -27,33 +27,39 @@ unfolding turns clashes
 turns-parity zero p q = refl
 turns-parity (suc n) p q = omega (arith, turns-parity n (p / 4) (q / 4), letter_turns-parity (p % 4) (q % 4) (low-lt p) (low-lt q))
 
+-- the two orders of a product have opposite turns
 pub turns-swap : (n p q : ℕ) → (turns n p q + turns n q p) % 4 ≡ 0
 unfolding turns
 turns-swap zero p q = refl
 turns-swap (suc n) p q = omega (arith, turns-swap n (p / 4) (q / 4), letter_turns-swap (p % 4) (q % 4) (low-lt p) (low-lt q))
 
+-- clashes are counted both ways round
 pub clashes-swap : (n p q : ℕ) → clashes n p q ≡ clashes n q p
 unfolding clashes
 clashes-swap zero p q = refl
 clashes-swap (suc n) p q = omega (arith, clashes-swap n (p / 4) (q / 4), letter_clash-swap (p % 4) (q % 4) (low-lt p) (low-lt q))
 
+-- P·(P·Q) has the turns that take back those of P·Q
 pub turns-back : (n p q : ℕ) → (turns n p (product_code p q) + turns n p q) % 4 ≡ 0
 unfolding turns
 turns-back zero p q = refl
 turns-back (suc n) p q =
     omega (arith, ap (turns n (p / 4)) (xor_shr p q 2), ap (letter_turns (p % 4)) (xor_mod p q 2), turns-back n (p / 4) (q / 4), letter_turns-back (p % 4) (q % 4) (low-lt p) (low-lt q))
 
+-- P clashes with P·Q on as many qubits as with Q
 pub clashes-back : (n p q : ℕ) → clashes n p (product_code p q) ≡ clashes n p q
 unfolding clashes
 clashes-back zero p q = refl
 clashes-back (suc n) p q =
     omega (arith, ap (clashes n (p / 4)) (xor_shr p q 2), ap (letter_clash (p % 4)) (xor_mod p q 2), clashes-back n (p / 4) (q / 4), letter_clash-back (p % 4) (q % 4) (low-lt p) (low-lt q))
 
+-- P·P has no turn
 pub turns-self : (n p : ℕ) → turns n p p ≡ 0
 unfolding turns
 turns-self zero p = refl
 turns-self (suc n) p = omega (arith, turns-self n (p / 4), letter_turns-self (p % 4) (low-lt p))
 
+-- both ways to multiply three operators have the same turns
 pub turns-assoc : (n p q r : ℕ) → (turns n p q + turns n (product_code p q) r) % 4 ≡ (turns n q r + turns n p (product_code q r)) % 4
 unfolding turns
 turns-assoc zero p q r = refl
@@ -73,10 +79,12 @@ pub even_from_commute : (n p q : ℕ) → commute n p q ≡ true → turns n p q
 unfolding commute
 even_from_commute n p q e = turns-parity n p q ∙ eqb-true _ _ e
 
+-- two that anticommute have odd turns
 pub odd_from_commute : (n p q : ℕ) → commute n p q ≡ false → turns n p q % 2 ≡ 1
 unfolding commute
 odd_from_commute n p q e = let d = eqb-false (clashes n p q % 2) 0 e in omega (arith, turns-parity n p q)
 
+-- two with even turns commute
 pub commute_from_even : (n p q : ℕ) → turns n p q % 2 ≡ 0 → commute n p q ≡ true
 unfolding commute
 commute_from_even n p q e = eq-eqb _ _ (sym (turns-parity n p q) ∙ e)
@@ -86,6 +94,7 @@ pub commute_both_orders : (n p q : ℕ) → (commute n p q ≡ true) ↔ (turns 
 commute_both_orders n p q =
     (λ e. omega (arith, even_from_commute n p q e, turns-swap n p q), λ e. commute_from_even n p q (omega (arith, turns-swap n p q)))
 
+-- commuting goes both ways
 pub commute-swap : (n p q : ℕ) → commute n p q ≡ commute n q p
 unfolding commute
 commute-swap n p q = ap (λ x. x % 2 == 0) (clashes-swap n p q)

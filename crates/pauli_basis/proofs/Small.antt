@@ -7,6 +7,7 @@ pub and_left : (a b : Bool) → T (a && b) → T a
 and_left true b h = tt
 and_left false b h = absurd h
 
+-- the second part of a conjunction that holds
 pub and_right : (a b : Bool) → T (a && b) → T b
 and_right true b h = h
 and_right false b h = absurd h
@@ -24,8 +25,10 @@ all_at (suc n) f h k l = elim (cases_eq k n) [
   | inr d ↦ all_at n f (and_right (f n) (all n f) h) k (omega arith)
 ]
 
+-- the test of a pair
 pub all_at2 : (m n : ℕ) (f : ℕ → ℕ → Bool) → T (all m (λ i. all n (f i))) → (i j : ℕ) → i < m → j < n → T (f i j)
 all_at2 m n f h i j l l' = all_at n (f i) (all_at m (λ i. all n (f i)) h i l) j l'
 
+-- the test of a triple
 pub all_at3 : (m n o : ℕ) (f : ℕ → ℕ → ℕ → Bool) → T (all m (λ i. all n (λ j. all o (f i j)))) → (i j k : ℕ) → i < m → j < n → k < o → T (f i j k)
 all_at3 m n o f h i j k l l' l'' = all_at o (f i j) (all_at2 m n (λ i j. all o (f i j)) h i j l l') k l''

@@ -5,6 +5,7 @@ use Rattle.std.proofs.lemmas.List.{take_all}
 use Rattle.pauli_basis.specs.Letters.{letter_of}
 use Rattle.pauli_basis.specs.Pauli.{letter_glyph, pauli_text}
 
+-- one byte a letter
 pub length-pauli_text : (n code : ℕ) → length (pauli_text n code) ≡ n
 length-pauli_text zero code = refl
 length-pauli_text (suc n) code = ap suc (length-pauli_text n code)
@@ -28,6 +29,7 @@ pauli_text_more (suc n) q code l = elim (cases_eq q n) [
       ∙ sym (ap (λ k. take k (pauli_text (suc n) code)) after)
 ]
 
+-- the letters down to qubit 0 are the text
 pub pauli_text_all : (n q code : ℕ) → q ≡ 0 → take (n - q) (pauli_text n code) ≡ pauli_text n code
 pauli_text_all n q code e = take_all (n - q) (pauli_text n code) (omega (arith, length-pauli_text n code))
 

@@ -1,5 +1,5 @@
 // A Pauli operator on one to three qubits.
-ghost use Rattle.std.specs.Prelude.{◌≡◌, ℕ, ◌+◌, ◌/◌, ◌%◌, ◌^◌, ◌<◌, ◌≤◌, ◌↔◌, Some, IsTrue, IsSome, IfSome, bit_xor, false, [], ◌∷◌, ◌*◌};
+ghost use Rattle.std.specs.Prelude.{◌≡◌, ℕ, ◌+◌, ◌%◌, ◌^◌, ◌<◌, ◌≤◌, ◌↔◌, Some, IsTrue, IsSome, IfSome, bit_xor, false, [], ◌∷◌};
 ghost use Rattle.pauli_basis.specs.Letters.{letter_of};
 ghost use Rattle.pauli_basis.specs.Pauli.{PauliString, IsPauliCode, letter_glyph, pauli_text};
 ghost use Rattle.pauli_basis.specs.Products.{product_code, turns, commute, anti_sign, sign_turns};
@@ -72,6 +72,7 @@ impl Pauli {
         ensures value { result ≡ self.now.qubits }
         ensures some { 0 < result }
         ensures few { result ≤ 3 }
+        ensures valid { IsPauliCode self.now.qubits self.now.code }
     {
         self.n
     }

@@ -1,4 +1,4 @@
-use Rattle.std.proofs.Common.{◌≡◌, ℕ, ◌+◌, ◌-◌, ◌<◌, length, arith}
+use Rattle.std.proofs.Common.{◌≡◌, ◌+◌, ◌-◌, arith}
 use Rattle.channel_rep.specs.Cells.{cell_of}
 use Rattle.channel_rep.proofs.OnePower.{not_yet, once_more}
 use Rattle.channel_rep.proofs.halves.divide_out.Goals as goal

@@ -1,4 +1,4 @@
-use Rattle.std.proofs.Common.{◌≡◌, ℕ, ◌<◌, ◌≤◌, length}
+use Rattle.std.proofs.Common.{◌≡◌, ℕ, ◌<◌, ◌≤◌}
 use Rattle.tc_ring.specs.Surds.{surd_negative}
 use Rattle.channel_rep.specs.Cells.{cell_of}
 use Rattle.channel_rep.proofs.rows.negate_if.Given as goal

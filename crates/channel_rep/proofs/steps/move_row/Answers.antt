@@ -1,4 +1,4 @@
-use Rattle.std.proofs.Common.{◌≡◌, ◌<◌, ◌≤◌, ◌^◌, sym, ◌∙◌, subst, arith}
+use Rattle.std.proofs.Common.{◌<◌, ◌≤◌, sym, subst, arith}
 use Rattle.pauli_basis.proofs.Masks.{six_bits}
 use Rattle.channel_rep.proofs.Images.{fits_three, image_below}
 use Rattle.channel_rep.proofs.Sweeps.{small_at, moved_pair, moved_alone, moved_before, turn_before_image, turn_of_image}

@@ -1,4 +1,4 @@
-use Rattle.std.proofs.Common.{◌≤◌, ◌^◌, arith}
+use Rattle.std.proofs.Common.{arith}
 use Rattle.channel_rep.proofs.Sweeps.{changed_more, moved_local, gate_turn-le}
 use Rattle.channel_rep.proofs.steps.move_rows.Goals as goal
 

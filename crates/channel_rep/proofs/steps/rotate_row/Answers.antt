@@ -1,4 +1,4 @@
-use Rattle.std.proofs.Common.{◌≡◌, ◌<◌, ◌^◌, ℕ, true, false, ap, sym, ◌∙◌, subst, arith}
+use Rattle.std.proofs.Common.{◌<◌, ◌^◌, ℕ, ap, sym, ◌∙◌, subst, arith}
 use Rattle.pauli_basis.specs.Pauli.{PauliString}
 use Rattle.pauli_basis.specs.Products.{commute, product_code, anti_sign}
 use Rattle.pauli_basis.proofs.Masks.{six_bits}

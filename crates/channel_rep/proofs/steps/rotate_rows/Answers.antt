@@ -1,4 +1,4 @@
-use Rattle.std.proofs.Common.{◌≡◌, ◌≤◌, ◌^◌, ◌∙◌, ℕ, ap, arith}
+use Rattle.std.proofs.Common.{◌≤◌, ◌^◌, ℕ, ap, arith}
 use Rattle.channel_rep.proofs.Sweeps.{changed_more, rotated_local, rotation_turn-le}
 use Rattle.channel_rep.proofs.steps.rotate_rows.Goals as goal
 

@@ -1,4 +1,4 @@
-use Rattle.std.proofs.Common.{◌≡◌, ◌*◌, ◌^◌, length}
+use Rattle.std.proofs.Common.{◌^◌}
 use Rattle.channel_rep.specs.Rows.{rotated, rotation_turn}
 use Rattle.channel_rep.proofs.Sweeps.{ChangedBelow}
 use Rattle.channel_rep.proofs.steps.rotate_rows.Given as goal

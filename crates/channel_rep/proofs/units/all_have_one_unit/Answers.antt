@@ -1,4 +1,4 @@
-use Rattle.std.proofs.Common.{true, false, refl, sym, ◌∙◌, arith, below_more}
+use Rattle.std.proofs.Common.{refl, sym, ◌∙◌, arith, below_more}
 use Rattle.std.proofs.lemmas.Bool.{true≢false}
 use Rattle.channel_rep.proofs.units.all_have_one_unit.Goals as goal
 

@@ -1,4 +1,4 @@
-use Rattle.std.proofs.Common.{◌≡◌, ℕ, ◌+◌, ◌*◌, ◌<◌, true, false, sym, ◌∙◌, arith}
+use Rattle.std.proofs.Common.{◌+◌, ◌*◌, sym, ◌∙◌, arith}
 use Rattle.std.proofs.lemmas.Bool.{true≢false}
 use Rattle.channel_rep.specs.Cells.{cell_of}
 use Rattle.channel_rep.proofs.OneUnit.{seen_zero, seen_unit, seen_all, seen_two, seen_other}

@@ -17,19 +17,19 @@ move_rows-requires-clause-small c = grown_within c.self.inside.n c.self.inside.g
 pub invariant_of-self : goal.invariant_of-self
 invariant_of-self c =
     let done = gate_done c.self.inside.n c.self.inside.k c.self.inside.grown _ c.self.inside.cells.items c.deref_mut.result.now c.move_rows.new.cells c.args.gate
-        (subst (λ (g : ChannelGrid). Fits g.qubits c.args.gate) (sym c.self.view_is) c.requires) c.self.invariant c.deref_mut.ensures.value c.deref_mut.ensures.len c.move_rows.ensures.whole c.move_rows.ensures.rows in
+    (subst (λ (g : ChannelGrid). Fits g.qubits c.args.gate) (sym c.self.view_is) c.requires) c.self.invariant c.deref_mut.ensures.value c.deref_mut.ensures.len c.move_rows.ensures.whole c.move_rows.ensures.rows in
     done.valid
 
 pub returns-clause-table : goal.returns-clause-table
 returns-clause-table c =
     let done = gate_done c.self.inside.n c.self.inside.k c.self.inside.grown _ c.self.inside.cells.items c.deref_mut.result.now c.move_rows.new.cells c.args.gate
-        (subst (λ (g : ChannelGrid). Fits g.qubits c.args.gate) (sym c.self.view_is) c.requires) c.self.invariant c.deref_mut.ensures.value c.deref_mut.ensures.len c.move_rows.ensures.whole c.move_rows.ensures.rows in
+    (subst (λ (g : ChannelGrid). Fits g.qubits c.args.gate) (sym c.self.view_is) c.requires) c.self.invariant c.deref_mut.ensures.value c.deref_mut.ensures.len c.move_rows.ensures.whole c.move_rows.ensures.rows in
     subst (λ (g : ChannelGrid). Agree surds (4 ^ g.qubits) (entries (4 ^ c.self.inside.n) (with_items c.self.inside.cells c.move_rows.new.cells).items) (product surds (4 ^ g.qubits) (gate_table g.qubits c.args.gate) (table_of g)))
     c.self.view_is done.table
 
 pub returns-clause-built : goal.returns-clause-built
 returns-clause-built c =
     let done = gate_done c.self.inside.n c.self.inside.k c.self.inside.grown _ c.self.inside.cells.items c.deref_mut.result.now c.move_rows.new.cells c.args.gate
-        (subst (λ (g : ChannelGrid). Fits g.qubits c.args.gate) (sym c.self.view_is) c.requires) c.self.invariant c.deref_mut.ensures.value c.deref_mut.ensures.len c.move_rows.ensures.whole c.move_rows.ensures.rows in
+    (subst (λ (g : ChannelGrid). Fits g.qubits c.args.gate) (sym c.self.view_is) c.requires) c.self.invariant c.deref_mut.ensures.value c.deref_mut.ensures.len c.move_rows.ensures.whole c.move_rows.ensures.rows in
     subst (λ (g : ChannelGrid). (steps : List Step) → IsBuiltOf g.qubits steps (scaled g) → IsBuiltOf g.qubits (steps ++ by_gate c.args.gate ∷ []) (scaled (grid c.self.inside.n c.self.inside.k c.self.inside.grown (with_items c.self.inside.cells c.move_rows.new.cells).items)))
     c.self.view_is done.built

@@ -1,0 +1,114 @@
+ghost use Rattle.std.specs.Prelude.{◌≡◌, ◌≢◌, IfOk};
+
+use crate::{Channel, ChannelGate};
+use pauli_basis::Pauli;
+use std::process::Abort;
+use std::test::Fail;
+use tc_ring::Root2;
+
+/// A Pauli other than the identity.
+fn pauli(n: u8, code: u8) -> Result<Pauli, &'static str>
+    ensures qubits { IfOk result (λ p. p.qubits ≡ n) }
+    ensures other { IfOk result (λ p. p.code ≢ 0) }
+{
+    match Pauli::new(n, code) {
+        Some(p) if p.code() != 0 => Ok(p),
+        _ => Err("no such Pauli"),
+    }
+}
+
+#[test]
+fn two_quarter_phases_are_a_half(rt: HostRuntime) -> Result<(), Fail> {
+    let z = pauli(1, 3)?;
+    let mut c = Channel::identity(rt.alloc(), 1)?;
+    c.left_rotation(z);
+    assert_eq!(rt; c.exponent(), 1);
+    // Rows and columns I, X, Y, Z; each cell as a and b.
+    let want = [
+        [(0, 1), (0, 0), (0, 0), (0, 0)],
+        [(0, 0), (1, 0), (-1, 0), (0, 0)],
+        [(0, 0), (1, 0), (1, 0), (0, 0)],
+        [(0, 0), (0, 0), (0, 0), (0, 1)],
+    ];
+    for row in 0..4usize {
+        for col in 0..4usize {
+            let (a, b) = want[row][col];
+            assert_eq!(rt; c.cell(row, col), Root2 { a, b }, "at {row}, {col}");
+        }
+    }
+    assert!(rt; !c.signed_permutation());
+    c.left_rotation(z);
+    c.reduce();
+    assert_eq!(rt; c.exponent(), 0);
+    images(&rt, &c, &[(1, 2, false), (2, 1, true), (3, 3, false)])
+}
+
+/// Asserts that each code goes to the code and the sign beside it.
+fn images(rt: &impl Abort, c: &Channel, want: &[(u8, u8, bool)]) -> Result<(), Fail> {
+    assert!(rt; c.signed_permutation());
+    for (code, image, negative) in want {
+        let p = Pauli::new(c.qubits(), *code).ok_or("no such Pauli")?;
+        let (q, sign) = c.image(p);
+        assert_eq!(rt; q.code(), *image, "the image of {p}");
+        assert_eq!(rt; sign, *negative, "the sign at {p}");
+    }
+    Ok(())
+}
+
+#[test]
+fn gates_conjugate(rt: HostRuntime) -> Result<(), Fail> {
+    let mut c = Channel::identity(rt.alloc(), 1)?;
+    c.left_gate(ChannelGate::H(0));
+    images(
+        &rt,
+        &c,
+        &[(0, 0, false), (1, 3, false), (2, 2, true), (3, 1, false)],
+    )?;
+    let mut c = Channel::identity(rt.alloc(), 1)?;
+    c.left_gate(ChannelGate::S(0));
+    images(&rt, &c, &[(1, 2, false), (2, 1, true), (3, 3, false)])?;
+    let mut c = Channel::identity(rt.alloc(), 1)?;
+    c.left_gate(ChannelGate::Sdg(0));
+    images(&rt, &c, &[(1, 2, true), (2, 1, false), (3, 3, false)])?;
+    // Control 0, target 1: X and Y of the control take X along, Y and Z of the target take Z along, and X with Z and Y
+    // with Y change places with a sign.
+    let mut c = Channel::identity(rt.alloc(), 2)?;
+    c.left_gate(ChannelGate::Cx(0, 1));
+    let want = [
+        (1, 5, false),
+        (2, 6, false),
+        (3, 3, false),
+        (4, 4, false),
+        (8, 11, false),
+        (12, 15, false),
+        (13, 10, true),
+        (10, 13, true),
+        (9, 14, false),
+        (14, 9, false),
+    ];
+    images(&rt, &c, &want)
+}
+
+#[test]
+fn an_inverse_undoes_a_rotation(rt: HostRuntime) -> Result<(), Fail> {
+    let mut c = Channel::identity(rt.alloc(), 3)?;
+    c.left_rotation(pauli(3, 27)?);
+    let mut d = Channel::identity(rt.alloc(), 3)?;
+    d.copy_from(&c);
+    assert_eq!(rt; d.qubits(), 3);
+    assert_eq!(rt; d.exponent(), 1);
+    d.left_rotation_inverse(pauli(3, 27)?);
+    assert_eq!(rt; d.exponent(), 2);
+    d.reduce();
+    assert_eq!(rt; d.exponent(), 0);
+    images(
+        &rt,
+        &d,
+        &[
+            (1, 1, false),
+            (8, 8, false),
+            (48, 48, false),
+            (63, 63, false),
+        ],
+    )
+}
