@@ -2,7 +2,7 @@
 use Rattle.std.proofs.Common.{◌≡◌, ℕ, suc, ◌+◌, ◌-◌, ◌<◌, ◌≤◌, Bool, true, false, cond, not, List, [], ◌∷◌, ◌++◌, length, map, take, drop, Option, Result, Err, arith, ap, ◌∙◌, sym, refl, ⊎_elim, append_assoc}
 use Rattle.std.specs.List.{prefix_len}
 use Rattle.std.proofs.lemmas.Bool.{cases_Bool}
-use Rattle.std.proofs.lemmas.List.{take_all, length-drop, drop-drop, at_drop_more}
+use Rattle.std.proofs.lemmas.List.{take_all, length-drop, drop-drop}
 use Rattle.qasm_lex.specs.declared.token.Kind.TheVariants.{Semi}
 use Rattle.qasm_lex.specs.declared.token.Token.{Token}
 use Rattle.qasm_reader.specs.Lexemes.{Lexeme, lexeme_of, is_same_kind, is_kind, cut_behind, statements}

@@ -1,6 +1,6 @@
 -- A statement to which no row applies can be taken: its gates fit the qubits, and they have few T gates.
 use Rattle.std.proofs.Common.{◌≡◌, ◌≢◌, ℕ, zero, suc, ◌+◌, ◌<◌, ◌≤◌, Bool, true, false, cond, not, ◌||◌, ◌&&◌, ◌==◌, List, [], ◌∷◌, ◌++◌, length, map, get_or, Option, Some, None, arith, ap, ◌∙◌, sym, refl, subst, ⊎_elim, length-append}
-use Rattle.std.specs.Prelude.{nat_lt, nat_le, is_none, MatchOption}
+use Rattle.std.specs.Prelude.{nat_lt, is_none}
 use Rattle.std.specs.List.{AllByRecursion, list_all, list_any, flat_map, range_with_len}
 use Rattle.std.specs.Str.{bytes_eq}
 use Rattle.std.proofs.lemmas.Bool.{cases_Bool, and_parts, eqb-true, eqb-false, ltb-true, ltb-false, leb-false, lt-ltb, eq-eqb, not-true, not-false}

@@ -1,7 +1,7 @@
 -- The lexemes of a text, which are its tokens with their bytes, and the statements into which they are cut.
 -- Source: OpenQASM 2.0 (Cross, Bishop, Smolin and Gambetta, 2017). Names may be the words sin, cos, tan, exp, ln and sqrt,
 -- which the standard keeps for itself.
-use Rattle.std.specs.Prelude.{ℕ, ◌≤◌, ◌+◌, Bool, ◌&&◌, ◌==◌, not, List, [], ◌∷◌, ◌++◌, length, codes, if◌then◌else◌}
+use Rattle.std.specs.Prelude.{ℕ, ◌≤◌, Bool, ◌&&◌, ◌==◌, not, List, [], ◌∷◌, ◌++◌, length, codes, if◌then◌else◌}
 use Rattle.std.specs.List.{list_any, list_all, slice_range}
 use Rattle.std.specs.Str.{bytes_eq}
 use Rattle.qasm_lex.specs.declared.token.Kind.{Kind}

@@ -1,12 +1,12 @@
 -- What the private functions say of a scan: one statement taken, and all of them.
-use Rattle.std.specs.Prelude.{◌≡◌, ℕ, ◌+◌, ◌<◌, ◌≤◌, false, List, map, Option, Some, None, Ok, Err}
+use Rattle.std.specs.Prelude.{◌≡◌, ◌+◌, ◌<◌, ◌≤◌, false, List, map, Option, Some, None, Ok, Err}
 use Rattle.tc_circuit.specs.Model.{IsCircuit, t_count_of}
 use Rattle.qasm_reader.specs.declared.fault.ReadFault.{ReadFault}
 use Rattle.qasm_reader.specs.declared.fault.ReadFault.TheVariants.{Refused, Memory}
 use Rattle.qasm_reader.specs.declared.refusal.Refusal.{Refusal}
 use Rattle.qasm_reader.specs.declared.scan.Scan.{Scan}
 use Rattle.qasm_reader.specs.Lexemes.{Lexeme, statements}
-use Rattle.qasm_reader.specs.Forms.{Form, Include, Qreg, Creg, Barrier, Apply}
+use Rattle.qasm_reader.specs.Forms.{Form, Qreg, Apply}
 use Rattle.qasm_reader.specs.Parse.{form_of}
 use Rattle.qasm_reader.specs.State.{State, start, value, gates_in, after}
 use Rattle.qasm_reader.specs.Limits.{most_qubits, most_t_gates}

@@ -4,7 +4,7 @@ use Rattle.std.specs.List.{flat_map, range_with_len}
 use Rattle.std.specs.Str.{bytes_eq}
 use Rattle.tc_circuit.specs.declared.circuit.Gate.{Gate}
 use Rattle.tc_circuit.specs.declared.circuit.Gate.TheVariants.{H, S, Sdg, T, Tdg, Cx}
-use Rattle.qasm_reader.specs.Forms.{Argument, Form, Include, Qreg, Creg, Barrier, Apply}
+use Rattle.qasm_reader.specs.Forms.{Argument, Form, Qreg, Creg, Apply}
 use Rattle.qasm_reader.specs.Known.{Known, known}
 
 -- a register of qubits: its name, its first qubit, and how many it has

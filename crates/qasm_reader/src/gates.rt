@@ -1,6 +1,6 @@
 // The gates that a text may name.
-ghost use Rattle.std.specs.Prelude.{◌≡◌, codes, Option, option_map};
-ghost use Rattle.qasm_reader.specs.Known.{Known, known};
+ghost use Rattle.std.specs.Prelude.{◌≡◌, drop, option_map};
+ghost use Rattle.qasm_reader.specs.Known.{look_up, table, known};
 ghost use Rattle.qasm_reader.specs.View.{known_gate};
 
 use tc_circuit::Gate;
@@ -54,6 +54,25 @@ fn on(arity: usize, gates: &[Gate]) -> Known<'_>
     Known { arity, gates }
 }
 
+// The gate of the name, if it takes more than one argument.
+fn wide_by_name(name: &[u8]) -> Option<Known<'static>>
+    ensures { option_map known_gate result ≡ look_up (drop 9 table) name.now }
+{
+    if name == b"cx".as_slice() {
+        return Some(on(2, &[Gate::Cx(0, 1)]));
+    }
+    if name == b"cz".as_slice() {
+        return Some(on(2, &CZ));
+    }
+    if name == b"swap".as_slice() {
+        return Some(on(2, &SWAP));
+    }
+    if name == b"ccx".as_slice() {
+        return Some(on(3, &CCX));
+    }
+    None
+}
+
 // The gate of the name.
 #[tactic(auto, unfolding(crate::specs::Known::known))]
 pub(crate) fn known_by_name(name: &[u8]) -> Option<Known<'static>>
@@ -86,17 +105,5 @@ pub(crate) fn known_by_name(name: &[u8]) -> Option<Known<'static>>
     if name == b"y".as_slice() {
         return Some(on(1, &Y));
     }
-    if name == b"cx".as_slice() {
-        return Some(on(2, &[Gate::Cx(0, 1)]));
-    }
-    if name == b"cz".as_slice() {
-        return Some(on(2, &CZ));
-    }
-    if name == b"swap".as_slice() {
-        return Some(on(2, &SWAP));
-    }
-    if name == b"ccx".as_slice() {
-        return Some(on(3, &CCX));
-    }
-    None
+    wide_by_name(name)
 }

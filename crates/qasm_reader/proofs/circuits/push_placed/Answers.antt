@@ -1,5 +1,4 @@
 use Rattle.std.proofs.Common.{ℕ, sym, subst}
-use Rattle.tc_circuit.specs.declared.circuit.Gate.{Gate}
 use Rattle.tc_circuit.specs.Gate.{Fits}
 use Rattle.qasm_reader.specs.State.{placed}
 use Rattle.qasm_reader.proofs.Placing.{fits_at}

@@ -1,8 +1,7 @@
-use Rattle.std.proofs.Common.{◌≡◌, ◌∙◌, List, ℕ, Option, None, map, length, ap, sym, refl, subst, arith}
+use Rattle.std.proofs.Common.{◌≡◌, ◌∙◌, List, Option, None, length, ap, sym, refl, subst}
 use Rattle.std.specs.Prelude.{All, option_map}
 use Rattle.std.proofs.lemmas.Result.{err_from_is_err_and}
 use Rattle.qasm_lex.specs.declared.token.Token.{Token}
-use Rattle.qasm_reader.specs.declared.fault.ReadFault.{ReadFault}
 use Rattle.qasm_reader.specs.declared.refusal.Refusal.TheVariants.{Header, Qubits}
 use Rattle.qasm_reader.specs.Lexemes.{IsWithin, statements}
 use Rattle.qasm_reader.specs.Parse.{headed_at}

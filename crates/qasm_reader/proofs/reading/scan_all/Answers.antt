@@ -1,14 +1,13 @@
-use Rattle.std.proofs.Common.{◌≡◌, ◌+◌, ◌-◌, ◌<◌, List, [], ℕ, Option, Some, None, Ok, Err, length, map, take, drop, arith, ◌∙◌, ap, sym, refl, subst, length-drop, length-take}
+use Rattle.std.proofs.Common.{◌≡◌, ◌+◌, ◌-◌, List, [], Option, length, take, drop, arith, ◌∙◌, ap, sym, subst, length-drop, length-take}
 use Rattle.std.proofs.lemmas.List.{drop_all}
 use Rattle.std.proofs.lemmas.Result.{err_from_is_err_and}
 use Rattle.qasm_lex.specs.declared.token.Token.{Token}
 use Rattle.qasm_reader.specs.declared.refusal.Refusal.{Refusal}
-use Rattle.qasm_reader.specs.Lexemes.{Lexeme, lexeme_of, statements}
+use Rattle.qasm_reader.specs.Lexemes.{Lexeme, statements}
 use Rattle.qasm_reader.specs.Parse.{form_of}
 use Rattle.qasm_reader.specs.State.{State, after}
-use Rattle.qasm_reader.specs.Rows.{row_of}
 use Rattle.qasm_reader.specs.Read.{scan, refused_or, place_of}
-use Rattle.qasm_reader.specs.Run.{statement_at, stated, Takes, IsRowFault, IsScanFault}
+use Rattle.qasm_reader.specs.Run.{stated, Takes, IsRowFault}
 use Rattle.qasm_reader.specs.View.{lexemes, state}
 use Rattle.qasm_reader.proofs.Cut.{of, scan_step, nothing, fault_from}
 use Rattle.qasm_reader.proofs.reading.scan_all.Goals as goal

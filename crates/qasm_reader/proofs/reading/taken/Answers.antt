@@ -1,7 +1,6 @@
-use Rattle.std.proofs.Common.{◌≡◌, Option, None, ◌∙◌, sym, subst}
+use Rattle.std.proofs.Common.{◌∙◌, sym, subst}
 use Rattle.std.specs.Prelude.{option_map}
-use Rattle.qasm_reader.specs.Forms.{Form, HasForm}
-use Rattle.qasm_reader.specs.Rows.{row_of}
+use Rattle.qasm_reader.specs.Forms.{HasForm}
 use Rattle.qasm_reader.specs.View.{lexemes, form, state}
 use Rattle.qasm_reader.proofs.Grammar.{has_form}
 use Rattle.qasm_reader.proofs.Registers.{inside_is}

@@ -1,0 +1,10 @@
+pub mod Places
+pub mod Images
+pub mod Signs
+pub mod Rules
+pub mod Sweeps
+pub mod Built
+pub mod Squares
+pub mod Grids
+pub mod OneUnit
+pub mod OnePower

@@ -1,0 +1,4 @@
+pub mod Gates
+pub mod Tables
+pub mod Rows
+pub mod Cells

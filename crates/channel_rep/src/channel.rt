@@ -1,0 +1,228 @@
+// The channel of a unitary, as a table over the Pauli operators.
+ghost use Rattle.std.specs.Prelude.{◌≡◌, ◌≢◌, ℕ, ◌+◌, ◌*◌, ◌^◌, ◌<◌, ◌≤◌, ◌↔◌, List, [], ◌∷◌, ◌++◌, length, true, false, IsTrue, IfOk};
+ghost use Rattle.ring_laws.specs.Matrix.{product, identity, Agree};
+ghost use Rattle.tc_ring.specs.Root2.{surd_of};
+ghost use Rattle.tc_ring.specs.Surds.{surds, SurdWithin, one_surd};
+ghost use Rattle.channel_rep.specs.Cells.{entries, cell_of};
+ghost use Rattle.channel_rep.specs.Gates.{Fits};
+ghost use Rattle.channel_rep.specs.Tables.{Step, by_gate, by_rotation, by_inverse_rotation, gate_table, rotation_table, signed, SameTable, IsBuiltOf};
+
+use crate::ChannelGate;
+use crate::halves::divide_out;
+use crate::rows::cell_at;
+use crate::steps::{codes, move_rows, rotate_rows};
+use crate::units::{is_signed_permutation, unit_of_column};
+use pauli_basis::Pauli;
+use std::alloc::{AllocError, Global};
+use std::marker::Model;
+use tc_ring::Root2;
+
+/// The cell of the identity at a row and a column.
+fn identity_cell(row: usize, column: usize) -> Root2
+    ensures { surd_of result ≡ identity surds row column }
+{
+    if row == column {
+        Root2 { a: 1, b: 0 }
+    } else {
+        Root2 { a: 0, b: 0 }
+    }
+}
+
+/// The cells of the identity, row by row.
+fn identity_cells(alloc: Global, n: u8) -> Result<Vec<Root2>, AllocError>
+    requires few { n ≤ 3 }
+    ensures whole { IfOk result (λ cells. length cells.items ≡ 4 ^ n * 4 ^ n) }
+    ensures identity { IfOk result (λ cells. Agree surds (4 ^ n) (entries (4 ^ n) cells.items) (identity surds)) }
+{
+    let size = codes(n);
+    let mut cells = Vec::with_capacity(alloc, size * size)?;
+    for place in 0..size * size {
+        cells.push(identity_cell(place / size, place % size))?;
+    }
+    Ok(cells)
+}
+
+/// The channel of a unitary U on one to three qubits: a table of 4^n rows and columns whose entry at row P and column Q
+/// is tr(P·U·Q·U†)/2^n, rows and columns being Pauli codes.
+///
+/// It stands for its cells divided by √2^k, one exponent k for all of them. Both numbers of each cell are at most
+/// 2^grown in absolute value, where `grown` counts the rotations since the identity and is at most 62.
+#[derive(Drop)]
+pub struct Channel {
+    n: u8,
+    k: u32,
+    grown: u32,
+    cells: Vec<Root2>,
+}
+
+impl Model for Channel {
+    ghost use Rattle.channel_rep.specs.Cells.{ChannelGrid, IsChannelGrid};
+
+    ghost Value = { ChannelGrid };
+
+    ghost view = { λ m. record { qubits = m.n; exponent = m.k; grown = m.grown; cells = m.cells.items } };
+
+    ghost invariant = { λ m. IsChannelGrid (record { qubits = m.n; exponent = m.k; grown = m.grown; cells = m.cells.items }) };
+}
+
+impl Channel {
+    ghost use Rattle.channel_rep.specs.Cells.{table_of, scaled, IsReduced, IsSignedPermutation};
+
+    /// The identity on n qubits, with exponent 0.
+    pub fn identity(alloc: Global, n: u8) -> Result<Channel, AllocError>
+        requires some { 0 < n }
+        requires few { n ≤ 3 }
+        ensures qubits { IfOk result (λ m. m.qubits ≡ n) }
+        ensures exponent { IfOk result (λ m. m.exponent ≡ 0) }
+        ensures grown { IfOk result (λ m. m.grown ≡ 0) }
+        ensures table { IfOk result (λ m. Agree surds (4 ^ n) (table_of m) (identity surds)) }
+        ensures built { IfOk result (λ m. IsBuiltOf n [] (scaled m)) }
+    {
+        let cells = identity_cells(alloc, n)?;
+        Ok(Channel {
+            n,
+            k: 0,
+            grown: 0,
+            cells,
+        })
+    }
+
+    /// Makes the channel into the gate's channel times it, in place.
+    pub fn left_gate(&mut self, gate: ChannelGate)
+        requires { Fits self.old.qubits gate }
+        ensures qubits { self.new.qubits ≡ self.old.qubits }
+        ensures exponent { self.new.exponent ≡ self.old.exponent }
+        ensures grown { self.new.grown ≡ self.old.grown }
+        ensures table { Agree surds (4 ^ self.old.qubits) (table_of self.new)
+            (product surds (4 ^ self.old.qubits) (gate_table self.old.qubits gate) (table_of self.old)) }
+        ensures built { (steps : List Step) → IsBuiltOf self.old.qubits steps (scaled self.old)
+            → IsBuiltOf self.old.qubits (steps ++ by_gate gate ∷ []) (scaled self.new) }
+    {
+        move_rows(&mut self.cells, self.n, gate);
+    }
+
+    /// Makes the channel into the rotation's channel times it, in place, or into that of the rotation's inverse.
+    fn turn(&mut self, p: &Pauli, inverse: bool)
+        requires same { p.now.qubits ≡ self.old.qubits }
+        requires other { p.now.code ≢ 0 }
+        requires room { self.old.grown < 62 }
+        ensures qubits { self.new.qubits ≡ self.old.qubits }
+        ensures exponent { self.new.exponent ≡ 1 + self.old.exponent }
+        ensures grown { self.new.grown ≡ 1 + self.old.grown }
+        ensures table { Agree surds (4 ^ self.old.qubits) (table_of self.new)
+            (product surds (4 ^ self.old.qubits) (rotation_table self.old.qubits inverse p.now.code) (table_of self.old)) }
+    {
+        rotate_rows(&mut self.cells, p, inverse);
+        self.k += 1;
+        self.grown += 1;
+    }
+
+    /// Makes the channel into that of the rotation R(p) times it, in place.
+    pub fn left_rotation(&mut self, p: Pauli)
+        requires same { p.qubits ≡ self.old.qubits }
+        requires other { p.code ≢ 0 }
+        requires room { self.old.grown < 62 }
+        ensures qubits { self.new.qubits ≡ self.old.qubits }
+        ensures exponent { self.new.exponent ≡ 1 + self.old.exponent }
+        ensures grown { self.new.grown ≡ 1 + self.old.grown }
+        ensures table { Agree surds (4 ^ self.old.qubits) (table_of self.new)
+            (product surds (4 ^ self.old.qubits) (rotation_table self.old.qubits false p.code) (table_of self.old)) }
+        ensures built { (steps : List Step) → IsBuiltOf self.old.qubits steps (scaled self.old)
+            → IsBuiltOf self.old.qubits (steps ++ by_rotation p.code ∷ []) (scaled self.new) }
+    {
+        self.turn(&p, false);
+    }
+
+    /// Makes the channel into that of the inverse of the rotation R(p) times it, in place.
+    pub fn left_rotation_inverse(&mut self, p: Pauli)
+        requires same { p.qubits ≡ self.old.qubits }
+        requires other { p.code ≢ 0 }
+        requires room { self.old.grown < 62 }
+        ensures qubits { self.new.qubits ≡ self.old.qubits }
+        ensures exponent { self.new.exponent ≡ 1 + self.old.exponent }
+        ensures grown { self.new.grown ≡ 1 + self.old.grown }
+        ensures table { Agree surds (4 ^ self.old.qubits) (table_of self.new)
+            (product surds (4 ^ self.old.qubits) (rotation_table self.old.qubits true p.code) (table_of self.old)) }
+        ensures built { (steps : List Step) → IsBuiltOf self.old.qubits steps (scaled self.old)
+            → IsBuiltOf self.old.qubits (steps ++ by_inverse_rotation p.code ∷ []) (scaled self.new) }
+    {
+        self.turn(&p, true);
+    }
+
+    /// The number of qubits, 1 to 3.
+    pub fn qubits(&self) -> u8
+        ensures value { result ≡ self.now.qubits }
+        ensures some { 0 < result }
+        ensures few { result ≤ 3 }
+    {
+        self.n
+    }
+
+    /// The power of √2 by which every cell is divided.
+    pub fn exponent(&self) -> u32
+        ensures value { result ≡ self.now.exponent }
+        ensures low { result ≤ self.now.grown }
+        ensures room { self.now.grown ≤ 62 }
+    {
+        self.k
+    }
+
+    /// The cell at a row and a column, before it is divided.
+    pub fn cell(&self, row: usize, col: usize) -> Root2
+        requires row { row < 4 ^ self.now.qubits }
+        requires col { col < 4 ^ self.now.qubits }
+        ensures value { surd_of result ≡ table_of self.now row col }
+        ensures small { SurdWithin (2 ^ self.now.grown) (surd_of result) }
+        ensures room { self.now.grown ≤ 62 }
+    {
+        cell_at(&self.cells, codes(self.n), row, col)
+    }
+
+    /// Makes the channel into another of as many qubits.
+    pub fn copy_from(&mut self, o: &Channel)
+        requires { self.old.qubits ≡ o.now.qubits }
+        ensures { self.new ≡ o.now }
+    {
+        self.k = o.k;
+        self.grown = o.grown;
+        self.cells.copy_from_slice(&o.cells);
+    }
+
+    /// Divides the cells by √2 as often as all of them can be divided, at most as often as the exponent says: the value
+    /// stays, and the exponent becomes the least one.
+    pub fn reduce(&mut self)
+        ensures qubits { self.new.qubits ≡ self.old.qubits }
+        ensures grown { self.new.grown ≡ self.old.grown }
+        ensures exponent { self.new.exponent ≤ self.old.exponent }
+        ensures value { SameTable self.old.qubits (scaled self.new) (scaled self.old) }
+        ensures least { IsReduced self.new }
+        ensures built { (steps : List Step) → IsBuiltOf self.old.qubits steps (scaled self.old)
+            → IsBuiltOf self.old.qubits steps (scaled self.new) }
+    {
+        self.k = divide_out(&mut self.cells, self.k);
+    }
+
+    /// Whether the table, as it stands, is a signed permutation: no power of √2, and in each row and each column one cell
+    /// 1 or −1 and else 0. A table that can be divided by √2 is none; reduce it first.
+    pub fn signed_permutation(&self) -> bool
+        ensures { IsTrue result ↔ IsSignedPermutation self.now }
+    {
+        self.k == 0 && is_signed_permutation(&self.cells, codes(self.n))
+    }
+
+    /// The Pauli to which a signed permutation takes `p`, and whether with a negative sign: the row of the one cell of the
+    /// column of `p`, and whether it is −1.
+    pub fn image(&self, p: Pauli) -> (Pauli, bool)
+        requires permutation { IsSignedPermutation self.now }
+        requires same { p.qubits ≡ self.now.qubits }
+        ensures qubits { result.0.qubits ≡ self.now.qubits }
+        ensures code { result.0.code < 4 ^ self.now.qubits }
+        ensures cell { table_of self.now result.0.code p.code ≡ signed result.1 one_surd }
+    {
+        let (row, negative) = unit_of_column(&self.cells, codes(self.n), p.code() as usize);
+        let Some(image) = Pauli::new(self.n, row as u8) else {
+            unreachable!()
+        };
+        (image, negative)
+    }
+}

@@ -1,0 +1,131 @@
+// The Clifford gates of a circuit, and what conjugation by them makes of a Pauli operator.
+ghost use Rattle.std.specs.Prelude.{◌≡◌, ◌≢◌, ℕ, ◌*◌, ◌^◌, ◌<◌, ◌≤◌, ◌↔◌, ◌⊎◌, IsTrue};
+ghost use Rattle.pauli_basis.specs.Letters.{letter_of};
+ghost use Rattle.channel_rep.specs.Gates.{h_letter, s_letter, sdg_letter, with_letter, cx_image};
+
+/// A Clifford gate, on qubits numbered from 0. `Cx` names the control first.
+#[derive(Clone, Copy, Debug, PartialEq, Eq)]
+pub enum ChannelGate {
+    /// The Hadamard gate.
+    H(u8),
+    /// The phase gate diag(1, i).
+    S(u8),
+    /// The inverse of the phase gate, diag(1, −i).
+    Sdg(u8),
+    /// The controlled not: control, target.
+    Cx(u8, u8),
+}
+
+/// The letter on a qubit.
+fn letter_of(code: u8, q: u8) -> u8
+    requires { q < 3 }
+    ensures value { result ≡ letter_of q code }
+    ensures small { result < 4 }
+{
+    (code >> (2 * q)) % 4
+}
+
+/// The code with another letter on a qubit.
+fn with_letter(code: u8, q: u8, letter: u8) -> u8
+    requires qubit { q < 3 }
+    requires letter { letter < 4 }
+    ensures { result ≡ with_letter q code letter }
+{
+    code ^ ((letter_of(code, q) ^ letter) << (2 * q))
+}
+
+/// What h makes of a letter, and whether with a negative sign.
+fn h_letter(letter: u8) -> (u8, bool)
+    requires { letter < 4 }
+    ensures code { result.0 ≡ (h_letter letter).code }
+    ensures sign { result.1 ≡ (h_letter letter).is_negative }
+    ensures small { result.0 < 4 }
+{
+    match letter {
+        0 => (0, false),
+        1 => (3, false),
+        2 => (2, true),
+        _ => (1, false),
+    }
+}
+
+/// What s makes of a letter, and whether with a negative sign.
+fn s_letter(letter: u8) -> (u8, bool)
+    requires { letter < 4 }
+    ensures code { result.0 ≡ (s_letter letter).code }
+    ensures sign { result.1 ≡ (s_letter letter).is_negative }
+    ensures small { result.0 < 4 }
+{
+    match letter {
+        0 => (0, false),
+        1 => (2, false),
+        2 => (1, true),
+        _ => (3, false),
+    }
+}
+
+/// What sdg makes of a letter, and whether with a negative sign.
+fn sdg_letter(letter: u8) -> (u8, bool)
+    requires { letter < 4 }
+    ensures code { result.0 ≡ (sdg_letter letter).code }
+    ensures sign { result.1 ≡ (sdg_letter letter).is_negative }
+    ensures small { result.0 < 4 }
+{
+    match letter {
+        0 => (0, false),
+        1 => (2, true),
+        2 => (1, false),
+        _ => (3, false),
+    }
+}
+
+/// What cx makes of a code, and whether with a negative sign: X and Y of the control put X on the target, Y and Z of the
+/// target put Z on the control, and where both happen the sign turns for X with Z and for Y with Y (Aaronson and
+/// Gottesman, Improved simulation of stabilizer circuits, 2004).
+fn cx_image(control: u8, target: u8, code: u8) -> (u8, bool)
+    requires control { control < 3 }
+    requires target { target < 3 }
+    requires apart { control ≢ target }
+    requires code { code < 64 }
+    ensures code { (n : ℕ) → n ≤ 3 → control < n → target < n → code < 4 ^ n → result.0 ≡ (cx_image n control target code).code }
+    ensures sign { (n : ℕ) → n ≤ 3 → control < n → target < n → code < 4 ^ n → result.1 ≡ (cx_image n control target code).is_negative }
+{
+    let c = letter_of(code, control);
+    let t = letter_of(code, target);
+    // A letter's bits are (z, y): it has Z where z is 1, and X where z and y differ.
+    let control_x = (c ^ (c >> 1)) % 2;
+    let control_z = c >> 1;
+    let target_x = (t ^ (t >> 1)) % 2;
+    let target_z = t >> 1;
+    let spread = (control_x << (2 * target)) ^ ((3 * target_z) << (2 * control));
+    let turned = control_x * target_z * (1 - (target_x ^ control_z));
+    (code ^ spread, turned == 1)
+}
+
+impl ChannelGate {
+    ghost use Rattle.channel_rep.specs.Gates.{image, Fits};
+
+    /// What conjugation by the gate makes of a code, g·P·g†, and whether with a negative sign.
+    pub fn image(self, code: u8) -> (u8, bool)
+        requires fits { Fits 3 self }
+        requires code { code < 64 }
+        ensures code { (n : ℕ) → n ≤ 3 → Fits n self → code < 4 ^ n → result.0 ≡ (image n self code).code }
+        ensures sign { (n : ℕ) → n ≤ 3 → Fits n self → code < 4 ^ n → result.1 ≡ (image n self code).is_negative }
+    {
+        match self {
+            ChannelGate::H(q) => {
+                let (letter, negative) = h_letter(letter_of(code, q));
+                (with_letter(code, q, letter), negative)
+            }
+            ChannelGate::S(q) => {
+                let (letter, negative) = s_letter(letter_of(code, q));
+                (with_letter(code, q, letter), negative)
+            }
+            ChannelGate::Sdg(q) => {
+                let (letter, negative) = sdg_letter(letter_of(code, q));
+                (with_letter(code, q, letter), negative)
+            }
+            ChannelGate::Cx(control, target) => cx_image(control, target, code),
+        }
+    }
+}
