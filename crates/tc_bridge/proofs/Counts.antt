@@ -1,0 +1,71 @@
+-- Which circuits Clifford gates, blocks and words make, and how many T gates these have.
+use Rattle.std.proofs.Common.{◌≡◌, ◌≢◌, ℕ, ◌+◌, ◌^◌, ◌<◌, ◌≤◌, List, [], ◌∷◌, ◌++◌, length, cond, refl, arith}
+use Rattle.std.proofs.lemmas.List.Sums.{sum_by-cons, sum_by-append}
+use Rattle.std.specs.List.{AllByRecursion}
+use Rattle.tc_circuit.specs.Gate.{is_t}
+use Rattle.tc_circuit.specs.Gate as circuit
+use Rattle.tc_circuit.specs.Model.{IsCircuit, t_count_of}
+use Rattle.tc_circuit.specs.declared.circuit.Gate.{Gate}
+use Rattle.channel_rep.specs.declared.gate.ChannelGate.{ChannelGate}
+use Rattle.channel_rep.specs.declared.gate.ChannelGate.TheVariants.{H, S, Sdg, Cx}
+use Rattle.channel_rep.specs.Gates.{Fits}
+use Rattle.tc_bridge.specs.Rotation.{IsWord}
+use Rattle.tc_bridge.specs.Block.{as_gate, as_gates, undone, opening, highest, block, word_gates}
+use Rattle.tc_bridge.proofs.Conjugations.{gate_fits, all-append, undone_fits}
+use Rattle.tc_bridge.proofs.Blocks.{opening_is}
+
+-- 1 for a T gate, else 0
+abbrev pub t_of : Gate → ℕ
+t_of g = cond (is_t g) 1 0
+
+-- T-counts add up
+pub t_count-cons : (g : Gate) (gates : List Gate) → t_count_of (g ∷ gates) ≡ t_of g + t_count_of gates
+t_count-cons g gates = sum_by-cons t_of g gates
+
+pub t_count-append : (c d : List Gate) → t_count_of (c ++ d) ≡ t_count_of c + t_count_of d
+t_count-append c d = sum_by-append t_of c d
+
+-- ---- Clifford gates
+clifford_t : (g : ChannelGate) → t_of (as_gate g) ≡ 0
+clifford_t (H q) = refl
+clifford_t (S q) = refl
+clifford_t (Sdg q) = refl
+clifford_t (Cx c t) = refl
+
+-- Clifford gates have no T gate
+pub clifford_count : (gates : List ChannelGate) → t_count_of (as_gates gates) ≡ 0
+clifford_count [] = refl
+clifford_count (g ∷ gates) = omega (arith, t_count-cons (as_gate g) (as_gates gates), clifford_t g, clifford_count gates)
+
+-- and are a circuit where they fit
+pub clifford_circuit : (n : ℕ) (gates : List ChannelGate) → AllByRecursion (Fits n) gates → IsCircuit n (as_gates gates)
+clifford_circuit n [] fits = tt
+clifford_circuit n (g ∷ gates) fits = (gate_fits n g fits.0, clifford_circuit n gates fits.1)
+
+-- ---- blocks
+pub block_count : (n p : ℕ) → t_count_of (block n p) ≡ 1
+block_count n p =
+    let v = opening n p in
+    omega (
+      arith,
+      t_count-append (as_gates v) (Gate.T (highest n p) ∷ as_gates (undone v)),
+      t_count-cons (Gate.T (highest n p)) (as_gates (undone v)),
+      clifford_count v,
+      clifford_count (undone v),
+    )
+
+-- and is a circuit
+pub block_circuit : (n : ℕ) → 0 < n → n ≤ 3 → (p : ℕ) → p < 4 ^ n → p ≢ 0 → IsCircuit n (block n p)
+block_circuit n some few p l d =
+    let o = opening_is n some few p l d in
+    all-append (circuit.Fits n) (as_gates (opening n p)) _ (clifford_circuit n (opening n p) o.fits) (o.below, clifford_circuit n (undone (opening n p)) (undone_fits n (opening n p) o.fits))
+
+-- ---- words
+pub word_count : (n : ℕ) (word : List ℕ) → t_count_of (word_gates n word) ≡ length word
+word_count n [] = refl
+word_count n (p ∷ word) = omega (arith, t_count-append (word_gates n word) (block n p), word_count n word, block_count n p)
+
+-- and is a circuit
+pub word_circuit : (n : ℕ) → 0 < n → n ≤ 3 → (word : List ℕ) → IsWord n word → IsCircuit n (word_gates n word)
+word_circuit n some few [] good = tt
+word_circuit n some few (p ∷ word) good = all-append (circuit.Fits n) (word_gates n word) (block n p) (word_circuit n some few word good.1) (block_circuit n some few p good.0.0 good.0.1)

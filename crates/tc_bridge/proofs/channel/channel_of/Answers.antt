@@ -1,0 +1,58 @@
+use Rattle.std.proofs.Common.{◌+◌, ◌<◌, ◌≤◌, cond, get_or, ap, sym, subst, ◌∙◌, arith}
+use Rattle.tc_circuit.specs.Gate.{is_t}
+use Rattle.tc_circuit.specs.Model.{matrix_of, IsCircuit}
+use Rattle.channel_rep.specs.Cells.{scaled}
+use Rattle.channel_rep.specs.Tables.{built}
+use Rattle.tc_bridge.specs.Steps.{steps_of}
+use Rattle.tc_bridge.proofs.Channels.{same_table_channel}
+use Rattle.tc_bridge.proofs.CircuitChannels.{circuit_channel, steps_fit}
+use Rattle.tc_bridge.proofs.Clauses.{word_then_clifford}
+use Rattle.tc_circuit.specs.declared.circuit.Gate.TheVariants.{H}
+use Rattle.tc_bridge.proofs.Prefixes.{count_more, built_more, built_all}
+use Rattle.tc_bridge.proofs.channel.channel_of.Goals as goal
+
+pub loop-gate-preserved : goal.loop-gate-preserved
+loop-gate-preserved c =
+    let inv = c.loop-gate.invariant in
+    let gates = c.gates-gates.result.now in
+    record {
+      qubits = c.apply.ensures.qubits ∙ inv.qubits;
+      grown = c.apply.ensures.grown ∙ ap (λ k. k + cond (is_t (get_or gates c.loop-gate.gate-index (H 0))) 1 0) inv.grown ∙ sym (count_more gates c.loop-gate.gate-index c.loop-gate-test.true (H 0));
+      built = built_more gates c.loop-gate.gate-index c.loop-gate-test.true (H 0) _ _ (scaled c.loop-gate.channel) (scaled c.apply.new.channel) inv.qubits inv.built c.apply.ensures.built;
+    }
+
+-- the word of the circuit
+pub returns-clause-word : goal.returns-clause-word
+returns-clause-word c =
+    let n = c.args.c.now.qubits in
+    let some : 0 < n = omega arith in
+    let few : n ≤ 3 = omega arith in
+    word_then_clifford n some few c.args.c.now.gates (subst (IsCircuit n) c.gates-gates.ensures.value c.gates-gates.ensures.fit)
+
+pub returns-in_err-channel-clause-word : goal.returns-in_err-channel-clause-word
+returns-in_err-channel-clause-word c =
+    let n = c.args.c.now.qubits in
+    let some : 0 < n = omega arith in
+    let few : n ≤ 3 = omega arith in
+    word_then_clifford n some few c.args.c.now.gates (subst (IsCircuit n) c.gates-gates.ensures.value c.gates-gates.ensures.fit)
+
+pub returns-clause-of_a_circuit : goal.returns-clause-of_a_circuit
+returns-clause-of_a_circuit c =
+    let n = c.args.c.now.qubits in
+    let gates = c.args.c.now.gates in
+    let inv = c.loop-gate.invariant in (
+      steps_of gates,
+      steps_fit n gates (subst (IsCircuit n) c.gates-gates.ensures.value c.gates-gates.ensures.fit),
+      built_all c.gates-gates.result.now gates c.loop-gate.gate-index _ n (scaled c.loop-gate.channel) (scaled c.reduce.new.self) c.loop-gate-test.false c.gates-gates.ensures.value inv.qubits inv.built c.reduce.ensures.built,
+    )
+
+pub returns-clause-channel : goal.returns-clause-channel
+returns-clause-channel c =
+    let n = c.args.c.now.qubits in
+    let gates = c.args.c.now.gates in
+    let some : 0 < n = omega arith in
+    let few : n ≤ 3 = omega arith in
+    let inv = c.loop-gate.invariant in
+    same_table_channel n (matrix_of n gates).table (built n (steps_of gates)) (scaled c.reduce.new.self)
+    (built_all c.gates-gates.result.now gates c.loop-gate.gate-index _ n (scaled c.loop-gate.channel) (scaled c.reduce.new.self) c.loop-gate-test.false c.gates-gates.ensures.value inv.qubits inv.built c.reduce.ensures.built)
+    (circuit_channel n some few gates (subst (IsCircuit n) c.gates-gates.ensures.value c.gates-gates.ensures.fit))

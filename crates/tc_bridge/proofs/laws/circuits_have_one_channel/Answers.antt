@@ -1,0 +1,11 @@
+use Rattle.tc_circuit.specs.Model.{matrix_of}
+use Rattle.tc_bridge.proofs.Unitary.{unitary_circuit}
+use Rattle.tc_bridge.proofs.Unique.{unique}
+use Rattle.tc_bridge.proofs.CircuitChannels.{circuit_channel}
+use Rattle.tc_bridge.proofs.laws.circuits_have_one_channel.Goals as goal
+
+pub returns-clause-exists : goal.returns-clause-exists
+returns-clause-exists c = circuit_channel
+
+pub returns-clause-unique : goal.returns-clause-unique
+returns-clause-unique c = λ n some few gates fits a b. unique n (matrix_of n gates).table (matrix_of n gates).exponent a b (unitary_circuit n some few gates fits)

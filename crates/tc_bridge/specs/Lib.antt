@@ -1,0 +1,6 @@
+pub mod Pauli
+pub mod Rotation
+pub mod Channel
+pub mod Steps
+pub mod Block
+pub mod Laws
