@@ -5,7 +5,7 @@ use Rattle.std.specs.declared.option.Option.{Option}
 use Rattle.std.proofs.lemmas.List.{length-append, append-nil}
 use Rattle.tc_io.specs.Stream.{ReadsAll, TakesFront}
 use Rattle.tcount_top.specs.Words.{IsCommand, usage_line}
-use Rattle.tcount_top.specs.Out.{Out, IsDue, usage, too_long, refused, not_yet, found, above}
+use Rattle.tcount_top.specs.Out.{Out, IsDue, usage, too_long, refused, found, above}
 use Rattle.tcount_top.specs.Run.{Answers, Responds, TakesText, OnContent, IsOutcome}
 use Rattle.tcount_top.specs.declared.top.Status.{Status}
 use Rattle.tcount_top.specs.declared.top.Status.TheVariants.{Refused, Usage, ReadFault, WriteFault, NoMemory}
@@ -74,9 +74,8 @@ due_is_outcome : (words : List (List ℕ)) (text : List ℕ) (status : Status) (
 due_is_outcome words text status bytes (usage none) = tt
 due_is_outcome words text status bytes (too_long c l) = tt
 due_is_outcome words text status bytes (refused c l number place r) = tt
-due_is_outcome words text status bytes (not_yet c l x r other) = tt
-due_is_outcome words text status bytes (found c l x d letters r answered best low word) = tt
-due_is_outcome words text status bytes (above c l x r answered h) = tt
+due_is_outcome words text status bytes (found c l x d letters r shows) = tt
+due_is_outcome words text status bytes (above c l x r h) = tt
 
 -- the outcome for a text that was read to its end, handed to the sink
 pub responded_due : (words : List (List ℕ)) (left left' : Option (List ℕ)) (reads reads' : ℕ) (written written' : Option (List ℕ)) (writes writes' : ℕ) (wanted status : Status) (text bytes : List ℕ)

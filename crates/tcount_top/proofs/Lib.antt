@@ -1,6 +1,3 @@
-pub mod Raising
-pub mod Four
-pub mod Closed
-pub mod Print
+pub mod Limits
 pub mod Due
 pub mod Answering

@@ -1,7 +1,5 @@
 pub mod Code
 pub mod Words
-pub mod Shown
-pub mod Rests
-pub mod Compare
+pub mod Refusal
 pub mod Out
 pub mod Run

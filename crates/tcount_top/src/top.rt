@@ -73,12 +73,12 @@ fn is_command(words: &[&str]) -> bool
 }
 
 // Writes an outcome's bytes, and answers its status where the sink took them.
-fn respond<K: Sink>(sink: &mut K, text: &str, status: Status) -> Status
+fn respond<K: Sink>(sink: &mut K, bytes: &[u8], status: Status) -> Status
     ensures responds { Responds (K.written sink.old) (K.written sink.new) (K.faults sink.old) (K.faults sink.new)
-        text.now status result }
+        bytes.now status result }
     ensures later { K.faults sink.old ≤ K.faults sink.new }
 {
-    match write_all(sink, text.as_bytes()) {
+    match write_all(sink, bytes) {
         Ok(()) => status,
         Err(Failed) => Status::WriteFault,
     }
@@ -111,16 +111,16 @@ pub fn run<S: Source, K: Sink>(alloc: Global, words: &[&str], src: &mut S, sink:
     ensures writes { K.faults sink.old ≤ K.faults sink.new }
 {
     if !is_command(words) {
-        return respond(sink, USAGE, Status::Usage);
+        return respond(sink, USAGE.as_bytes(), Status::Usage);
     }
     let text = match read_all(alloc, src, LONGEST) {
         Ok(text) => text,
         Err(ReadAllFault::Failed) => return Status::ReadFault,
-        Err(ReadAllFault::TooLong) => return respond(sink, "refused 14\n", Status::Refused),
+        Err(ReadAllFault::TooLong) => return respond(sink, b"refused 14\n", Status::Refused),
         Err(ReadAllFault::Memory) => return Status::NoMemory,
     };
     match answer(alloc, &text) {
-        Ok((status, bytes)) => respond(sink, bytes.as_str(), status),
+        Ok((status, bytes)) => respond(sink, &bytes, status),
         Err(AllocError) => Status::NoMemory,
     }
 }

@@ -1,0 +1,4 @@
+pub mod Sweep
+pub mod Rest
+pub mod State
+pub mod Laws
