@@ -108,7 +108,7 @@ impl ChannelGate {
     ghost use Rattle.channel_rep.specs.Gates.{image, Fits};
 
     /// What conjugation by the gate makes of a code, g·P·g†, and whether with a negative sign.
-    pub(crate) fn image(self, code: u8) -> (u8, bool)
+    pub fn image(self, code: u8) -> (u8, bool)
         requires fits { Fits 3 self }
         requires code { code < 64 }
         ensures code { (n : ℕ) → n ≤ 3 → Fits n self → code < 4 ^ n

@@ -12,6 +12,7 @@ use Rattle.channel_rep.specs.Cells.{ChannelGrid, scaled, IsReduced, IsSignedPerm
 use Rattle.tc_bridge.specs.Channel.{IsChannel}
 use Rattle.tc_bridge.specs.Steps.{steps_of}
 use Rattle.tc_bridge.specs.Laws.{CircuitsHaveChannels, OneChannelWhereSame}
+use Rattle.clifford_rest.specs.Laws.{CircuitsHavePermutations}
 use Rattle.circuit_writer.specs.Shown.{IsLetter, IsWord, shown}
 use Rattle.tcount_top.specs.Refusal.{refusal_line}
 use Rattle.tcount_top.specs.Out.{Out, ShowsOptimal, IsDue, IsDueFor, IsAbove, IsOptimal, refused, found, above}
@@ -27,21 +28,23 @@ pub record HasChannel (c : Gates) (m : ChannelGrid) : Type 0 where
   pub small : IsSmallCircuit c
   pub channel : IsChannel c.qubits (matrix_of c.qubits c.gates).table (scaled m)
 
--- a circuit without T gates has a signed permutation, in every table with the least exponent
-abbrev pub NoTGatesPermute : Type 0
-NoTGatesPermute = (n : ℕ) (gates : List Gate) (m : ChannelGrid) → 0 < n → n ≤ 3 → IsCircuit n gates → t_count_of gates ≡ 0
-    → m.qubits ≡ n → IsReduced m → IsBuiltOf n (steps_of gates) (scaled m) → IsSignedPermutation m
+-- the law on circuits without T gates, at a number of qubits that the table has
+permutes : CircuitsHavePermutations → (n : ℕ) (gates : List Gate) (m : ChannelGrid) → m.qubits ≡ n → 0 < n → n ≤ 3 → IsCircuit n gates → t_count_of gates ≡ 0
+    → IsBuiltOf n (steps_of gates) (scaled m) → IsReduced m → IsSignedPermutation m
+permutes law n gates m e =
+    subst (λ (k : ℕ). 0 < k → k ≤ 3 → IsCircuit k gates → t_count_of gates ≡ 0 → IsBuiltOf k (steps_of gates) (scaled m) → IsReduced m → IsSignedPermutation m) e
+    (λ some few fits no_t is reduced. law m some few gates fits no_t is reduced)
 
 -- a circuit whose channel is no signed permutation: each circuit that is the same has a T gate
-pub due_above : CircuitsHaveChannels → OneChannelWhereSame → NoTGatesPermute → (c : Gates) (m : ChannelGrid) (bytes : List ℕ)
+pub due_above : CircuitsHaveChannels → OneChannelWhereSame → CircuitsHavePermutations → (c : Gates) (m : ChannelGrid) (bytes : List ℕ)
     → HasChannel c m → m.qubits ≡ c.qubits → IsReduced m → (IsSignedPermutation m → ⊥) → bytes ≡ codes "above 0\n" → IsDueFor c Above bytes
 due_above have one permute c m bytes h qubits reduced none e text reads words command short =
     subst (λ (b : List ℕ). Out words text Above b) (sym e) (above command short c reads over)
   where
     over : IsAbove c 0
     over d fits same = elim (cases_eq (t_count_of d) 0) [
-      | inl no_t ↦ absurd (none (permute c.qubits d m h.small.some h.small.few fits no_t qubits reduced
-          ((one c.qubits h.small.some h.small.few c.gates d h.small.fit fits (scaled m) (built c.qubits (steps_of d)) h.channel (have c.qubits h.small.some h.small.few d fits)).1 same)))
+      | inl no_t ↦ absurd (none (permutes permute c.qubits d m qubits h.small.some h.small.few fits no_t
+          ((one c.qubits h.small.some h.small.few c.gates d h.small.fit fits (scaled m) (built c.qubits (steps_of d)) h.channel (have c.qubits h.small.some h.small.few d fits)).1 same) reduced))
       | inr some ↦ omega arith
     ]
 

@@ -6,10 +6,13 @@ ghost use Rattle.tcount_top.specs.Out.{IsDue, IsDueFor};
 
 use crate::Status;
 use circuit_writer::text;
+use clifford_rest::laws::circuits_have_permutations;
 use clifford_rest::rest;
+use printed_texts::printed_texts_read_back;
 use qasm_reader::{ReadFault, read};
 use std::alloc::{AllocError, Global};
 use tc_bridge::channel_of;
+use tc_bridge::laws::{circuits_have_one_channel, one_channel_where_same};
 use tc_circuit::Circuit;
 
 // The line of a refusal.
@@ -25,6 +28,10 @@ fn answer_for(alloc: Global, circuit: &Circuit) -> Result<(Status, Vec<u8>), All
     requires { t_count_of circuit.now.gates ≤ 44 }
     ensures { IfOk result (λ r. IsDueFor circuit.now r.0 r.1.items) }
 {
+    circuits_have_one_channel();
+    one_channel_where_same();
+    circuits_have_permutations();
+    printed_texts_read_back();
     let channel = channel_of(alloc, circuit)?;
     if !channel.signed_permutation() {
         return Ok((Status::Above, Vec::from_slice(alloc, b"above 0\n")?));
