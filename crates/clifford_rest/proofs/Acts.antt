@@ -1,14 +1,14 @@
 -- What matrices do to Paulis.
-use Rattle.std.proofs.Common.{◌≡◌, ℕ, ◌+◌, ◌^◌, ◌<◌, ◌≤◌, List, [], ◌∷◌, refl, ap, sym, ◌∙◌, subst}
+use Rattle.std.proofs.Common.{◌≡◌, ℕ, ◌^◌, ◌<◌, ◌≤◌, List, [], ◌∷◌, ap, ◌∙◌}
 use Rattle.std.specs.List.{AllByRecursion}
 use Rattle.ring_laws.specs.Ring.{power}
 use Rattle.ring_laws.specs.Matrix.{product, identity}
-use Rattle.ring_laws.specs.Cyclotomic.{Zω, cyclotomics, times, root2}
+use Rattle.ring_laws.specs.Cyclotomic.{cyclotomics, times, root2}
 use Rattle.ring_laws.proofs.Ring.{power-zero}
-use Rattle.ring_laws.proofs.Matrices.{Alike, ◌⊙◌, alike-refl, alike-sym, assoc, multiple, multiple-cong, multiple-factor, multiple-multiple, multiple-one, multiple-product, product-multiple, combination-weights, combination-multiple, combination-identity, product-left, product-right, one-product, product-one}
+use Rattle.tc_bridge.proofs.Matrices.{Alike, ◌⊙◌, alike-sym, assoc, multiple, multiple-cong, multiple-factor, multiple-multiple, multiple-one, multiple-product, product-multiple, combination-weights, combination-multiple, combination-identity, product-left, product-right, one-product, product-one}
 use Rattle.ring_laws.proofs.Cyclotomic.{cyclotomics_laws as laws}
 use Rattle.tc_ring.specs.Surds.{surds, embed}
-use Rattle.tc_circuit.specs.Gate.{Table, gate_table, gate_exponent}
+use Rattle.tc_circuit.specs.Gate.{Table, gate_table}
 use Rattle.tc_circuit.specs.Model.{ScaledMatrix, after, matrix_of}
 use Rattle.pauli_basis.specs.Products.{Signed}
 use Rattle.channel_rep.specs.declared.gate.ChannelGate.{ChannelGate}
@@ -86,4 +86,4 @@ channel_from_acts n u c e made entries acts = channel_from n u c (λ q l.
     multiple-factor laws (ap (power cyclotomics root2) e ∙ power-zero laws root2) _ ⊙ multiple-one laws _
     ⊙ (acts q l).is
     ⊙ alike-sym (combination-weights laws (4 ^ n) _ _ _ (λ k lk. entry n c q (made q) (entries q l) k lk) ⊙ combination-multiple laws (4 ^ n) _ _ _
-        ⊙ multiple-cong laws _ (combination-identity laws (4 ^ n) _ _ (entries q l).below)))
+    ⊙ multiple-cong laws _ (combination-identity laws (4 ^ n) _ _ (entries q l).below)))

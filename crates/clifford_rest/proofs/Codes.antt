@@ -1,13 +1,13 @@
 -- Conjugation of codes by gates and by their inverses.
-use Rattle.std.proofs.Common.{◌≡◌, ℕ, zero, suc, ◌+◌, ◌*◌, ◌^◌, ◌<◌, ◌≤◌, Bool, true, false, not, ◌&&◌, ◌||◌, T as Holds, eqb, eqb→eq, List, [], ◌∷◌, ◌++◌, length, refl, ap, sym, ◌∙◌, subst, arith}
+use Rattle.std.proofs.Common.{◌≡◌, ℕ, ◌^◌, ◌<◌, ◌≤◌, Bool, true, false, ◌&&◌, T as Holds, eqb, eqb→eq, List, [], ◌∷◌, ◌++◌, length, refl, ap, sym, ◌∙◌, arith}
 use Rattle.std.specs.List.{AllByRecursion}
 use Rattle.std.proofs.lemmas.List.{length-append}
 use mathlib.Core.Bool.{beq}
-use Rattle.pauli_basis.specs.Products.{Signed, clashes, turns}
+use Rattle.pauli_basis.specs.Products.{Signed, turns}
 use Rattle.pauli_basis.proofs.Small.{all, all_at, and_left, and_right}
 use Rattle.channel_rep.specs.declared.gate.ChannelGate.{ChannelGate}
 use Rattle.channel_rep.specs.declared.gate.ChannelGate.TheVariants.{H, S, Sdg, Cx}
-use Rattle.channel_rep.specs.Gates.{Fits, image, positive}
+use Rattle.channel_rep.specs.Gates.{Fits, image}
 use Rattle.channel_rep.specs.Tables.{turned_over}
 use Rattle.channel_rep.proofs.Images.{image-lt, beq_is}
 use Rattle.tc_bridge.specs.Block.{inverse_gate, undone}

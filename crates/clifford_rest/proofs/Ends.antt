@@ -1,6 +1,6 @@
 -- One qubit's sweep ends at X and Z, by computing it on all pairs of Paulis: those that commute with X and Z on the lower
 -- qubits and anticommute with each other, with each of the four signs.
-use Rattle.std.proofs.Common.{ℕ, zero, suc, ◌+◌, ◌*◌, ◌^◌, Bool, true, false, not, ◌&&◌, ◌||◌, eqb, ltb, leb, T as Holds, List, [], ◌∷◌, length}
+use Rattle.std.proofs.Common.{ℕ, ◌+◌, ◌*◌, ◌^◌, Bool, true, false, not, ◌&&◌, ◌||◌, eqb, ltb, leb, T as Holds, List, [], ◌∷◌, length}
 use Rattle.pauli_basis.specs.Products.{Signed, clashes, commute, turns}
 use Rattle.channel_rep.specs.Gates.{image, positive}
 use Rattle.channel_rep.specs.declared.gate.ChannelGate.{ChannelGate}

@@ -1,6 +1,5 @@
 -- What leaves X and Z on every qubit leaves every Pauli.
-use Rattle.std.proofs.Common.{◌≡◌, ℕ, zero, suc, ◌+◌, ◌*◌, ◌/◌, ◌%◌, ◌^◌, ◌<◌, ◌≤◌, bit_xor, Bool, true, false, ◌&&◌, T as Holds, eqb, eqb→eq, ltb, ltb→lt, refl, ap, sym, ◌∙◌, subst, arith, lit<}
-use Rattle.std.proofs.Math.Nat.{one-le-pow}
+use Rattle.std.proofs.Common.{◌≡◌, ℕ, zero, suc, ◌+◌, ◌*◌, ◌%◌, ◌^◌, ◌<◌, ◌≤◌, Bool, true, false, ◌&&◌, T as Holds, eqb, eqb→eq, ltb, ltb→lt, refl, subst, arith, lit<}
 use Rattle.tc_circuit.specs.Model.{ScaledMatrix}
 use Rattle.tc_circuit.proofs.Flips.{sizes}
 use Rattle.pauli_basis.specs.Letters.{letter_of}

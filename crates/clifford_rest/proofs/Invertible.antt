@@ -5,7 +5,7 @@ use Rattle.ring_laws.specs.Ring.{power}
 use Rattle.ring_laws.specs.Matrix.{product, identity}
 use Rattle.ring_laws.specs.Cyclotomic.{Zω, cyclotomics, integer, plus, times, negative, ω, root2, zero_number, one_number}
 use Rattle.ring_laws.proofs.Ring.{power-add, power-zero}
-use Rattle.ring_laws.proofs.Matrices.{Alike, ◌⊙◌, alike, alike-sym, multiple, multiple-cong, multiple-factor, multiple-multiple, multiple-one, one-product, scalar_between}
+use Rattle.tc_bridge.proofs.Matrices.{Alike, ◌⊙◌, alike, alike-sym, multiple, multiple-cong, multiple-factor, multiple-multiple, multiple-one, one-product, scalar_between}
 use Rattle.ring_laws.proofs.Cyclotomic.{cyclotomics_laws as laws, zero-times, plus-zero}
 use Rattle.tc_circuit.specs.Gate.{Table, gate_table, gate_exponent}
 use Rattle.tc_circuit.specs.Model.{ScaledMatrix, after}

@@ -1,21 +1,18 @@
 -- Conjugation keeps products of Paulis.
-use Rattle.std.proofs.Common.{◌≡◌, ◌≢◌, ℕ, ◌+◌, ◌*◌, ◌%◌, ◌^◌, ◌<◌, Bool, true, false, not, ◌&&◌, ◌||◌, T as Holds, eqb, eqb→eq, refl, ap, sym, ◌∙◌, subst, inl, inr, arith, mod-lt, lit<}
+use Rattle.std.proofs.Common.{◌≡◌, ℕ, ◌+◌, ◌%◌, ◌^◌, ◌<◌, Bool, true, false, not, ◌||◌, T as Holds, eqb, eqb→eq, refl, ap, sym, ◌∙◌, subst, inl, inr, arith, mod-lt, lit<}
 use Rattle.std.proofs.lemmas.Bool.{cases_eq}
-use Rattle.std.proofs.lemmas.Nat.{xor_comm}
 use Rattle.ring_laws.specs.Ring.{power}
 use Rattle.ring_laws.specs.Matrix.{product, identity}
 use Rattle.ring_laws.specs.Cyclotomic.{Zω, cyclotomics, integer, plus, times, negative, ω, zero_number, root2}
-use Rattle.ring_laws.proofs.Ring.{power-add, one-mul, mul-zero}
-use Rattle.ring_laws.proofs.Sums.{identity_same, identity_apart}
-use Rattle.ring_laws.proofs.Matrices.{Alike, ◌⊙◌, alike-sym, assoc, multiple, multiple-cong, multiple_comm, multiple-factor, multiple-multiple, multiple-product, product-multiple, combination, combination-multiple, combination-identity, product-left, product-right, product-scalar}
+use Rattle.ring_laws.proofs.Ring.{power-add, mul-zero}
+use Rattle.tc_bridge.proofs.Identities.{identity_same, identity_apart}
+use Rattle.tc_bridge.proofs.Matrices.{Alike, ◌⊙◌, alike-sym, assoc, multiple, multiple-cong, multiple_comm, multiple-factor, multiple-multiple, multiple-product, product-multiple, combination, combination-multiple, combination-identity, product-left, product-right, product-scalar}
 use Rattle.ring_laws.proofs.Cyclotomic.{cyclotomics_laws as laws, times_assoc, times-one}
 use Rattle.tc_circuit.specs.Gate.{Table}
-use Rattle.pauli_basis.specs.Products.{Signed, product_code, turns, commute, sign_turns}
+use Rattle.pauli_basis.specs.Products.{Signed, product_code, turns, sign_turns}
 use Rattle.pauli_basis.proofs.Small.{all, all_at, all_at2}
-use Rattle.pauli_basis.proofs.Products.{turns-swap, commute_both_orders}
-use Rattle.channel_rep.specs.Gates.{positive}
 use Rattle.tc_bridge.specs.Pauli.{imaginary, pauli_matrix, sign}
-use Rattle.tc_bridge.proofs.Decide.{same_number, number_equal}
+use Rattle.tc_bridge.proofs.Decide.{same_number}
 use Rattle.tc_bridge.proofs.Paulis.{paulis_multiply}
 use Rattle.tc_bridge.proofs.Powers.{cancel_multiple, imaginary-mod, imaginary-sign}
 use Rattle.tc_bridge.proofs.Unique.{equal_weights}
@@ -104,7 +101,7 @@ module _ (n : ℕ) (u : Table) (invertible : IsInvertible n u) where
     twice =
         alike-sym (assoc laws u (pauli_matrix n p) (pauli_matrix n q)) ⊙ product-right laws hp.is (pauli_matrix n q) ⊙ multiple-product laws _ _ _
         ⊙ multiple-cong laws _ (assoc laws (pauli_matrix n s.code) u (pauli_matrix n q) ⊙ product-left laws (pauli_matrix n s.code) hq.is ⊙ product-multiple laws _ _ _
-            ⊙ multiple-cong laws _ (alike-sym (assoc laws (pauli_matrix n s.code) (pauli_matrix n t.code) u) ⊙ product-right laws (paulis_multiply n s.code t.code) u ⊙ multiple-product laws _ _ u) ⊙ multiple-multiple laws _ _ _)
+        ⊙ multiple-cong laws _ (alike-sym (assoc laws (pauli_matrix n s.code) (pauli_matrix n t.code) u) ⊙ product-right laws (paulis_multiply n s.code t.code) u ⊙ multiple-product laws _ _ u) ⊙ multiple-multiple laws _ _ _)
         ⊙ multiple-multiple laws _ _ _
         ⊙ multiple-factor laws (gather s.is_negative t.is_negative) _
       where

@@ -1,12 +1,9 @@
 -- What a signed permutation makes of a code.
-use Rattle.std.proofs.Common.{◌≡◌, ◌≢◌, ℕ, zero, suc, ◌+◌, ◌^◌, ◌<◌, ◌≤◌, Bool, true, false, cond, refl, ap, sym, ◌∙◌, subst, inl, inr, ⊎_elim, arith}
-use Rattle.std.specs.Prelude.{ℤ, pos, negsuc}
+use Rattle.std.proofs.Common.{◌≡◌, ◌≢◌, ℕ, zero, suc, ◌^◌, ◌<◌, Bool, true, false, refl, ap, sym, ◌∙◌, subst, inl, inr, arith}
 use Rattle.std.proofs.lemmas.Bool.{cond-true, cond-false, cases_eq}
-use Rattle.ring_laws.specs.Matrix.{identity}
-use Rattle.tc_ring.specs.Surds.{Surd, surds, surd_integer, surd_negative, zero_surd, one_surd}
-use Rattle.pauli_basis.specs.Products.{Signed}
+use Rattle.tc_ring.specs.Surds.{Surd, surd_integer, surd_negative, zero_surd, one_surd}
 use Rattle.channel_rep.specs.Cells.{ChannelGrid, table_of, scaled, IsUnit, HasOneUnit, IsSignedPermutation}
-use Rattle.channel_rep.specs.Tables.{SurdTable, signed}
+use Rattle.channel_rep.specs.Tables.{signed}
 use Rattle.channel_rep.proofs.Rules.{one_at, zero_at}
 use Rattle.channel_rep.proofs.Signs.{signed-zero}
 use Rattle.clifford_rest.specs.Rest.{is_zero, is_below_zero, place_of, sent_to}

@@ -1,5 +1,5 @@
 -- The rest of a signed permutation that is a circuit's channel has that channel.
-use Rattle.std.proofs.Common.{◌≡◌, ℕ, zero, suc, ◌+◌, ◌*◌, ◌^◌, ◌<◌, ◌≤◌, Bool, false, true, List, [], ◌∷◌, length, refl, ap, sym, ◌∙◌, subst, arith}
+use Rattle.std.proofs.Common.{◌≡◌, ℕ, suc, ◌^◌, ◌<◌, ◌≤◌, false, true, List, [], ◌∷◌, length, refl, ap, sym, ◌∙◌, subst, arith}
 use Rattle.std.specs.List.{AllByRecursion}
 use Rattle.ring_laws.specs.Matrix.{product, identity, Agree}
 use Rattle.ring_laws.specs.Cyclotomic.{cyclotomics}
@@ -12,7 +12,7 @@ use Rattle.channel_rep.specs.declared.gate.ChannelGate.{ChannelGate}
 use Rattle.channel_rep.specs.declared.gate.ChannelGate.TheVariants.{H, S, Sdg, Cx}
 use Rattle.channel_rep.specs.Cells.{ChannelGrid, table_of, scaled, IsSignedPermutation}
 use Rattle.channel_rep.specs.Gates.{Fits, positive}
-use Rattle.channel_rep.specs.Tables.{ScaledTable, Step, by_gate, by_rotation, by_inverse_rotation, IsStep, step_table, step_exponent, stepped, built_on, built, SameTable, IsBuiltOf, IsCircuitChannel}
+use Rattle.channel_rep.specs.Tables.{ScaledTable, Step, by_gate, by_rotation, by_inverse_rotation, IsStep, step_table, step_exponent, stepped, built_on, built, IsBuiltOf, IsCircuitChannel}
 use Rattle.tc_bridge.specs.Block.{as_gate, as_gates, inverse_gate, undone}
 use Rattle.tc_bridge.specs.Channel.{IsChannel}
 use Rattle.tc_bridge.specs.Steps.{steps_of}
@@ -24,13 +24,13 @@ use Rattle.tc_bridge.proofs.Rotations.{turned_axis, rotation_channel}
 use Rattle.tc_bridge.proofs.Unique.{unique}
 use Rattle.tc_bridge.proofs.Unitary.{unitary_circuit}
 use Rattle.clifford_rest.specs.Rest.{IsUndoGate, IsRestGate, sent_to, undo_gates, rest_of}
-use Rattle.clifford_rest.specs.Sweep.{conjugated_by, undo_list}
+use Rattle.clifford_rest.specs.Sweep.{conjugated_by}
 use Rattle.clifford_rest.proofs.Acts.{Acts, HasEntry, acts_circuit, acts_from_channel, channel_from_acts}
 use Rattle.clifford_rest.proofs.Codes.{conjugated_by-undone, length-undone}
 use Rattle.clifford_rest.proofs.Fixed.{all_stay}
 use Rattle.clifford_rest.proofs.Invertible.{IsInvertible, invertible_identity, invertible_gate, invertible_product, invertible_rotation}
 use Rattle.clifford_rest.proofs.Permutations.{sent_entry}
-use Rattle.clifford_rest.proofs.Tables.{entry_gates, gates_exponent, identity_from_entries}
+use Rattle.clifford_rest.proofs.Tables.{entry_gates, identity_from_entries}
 use Rattle.clifford_rest.proofs.Undone.{TakesPaulis, Swept, swept, taken, most_below}
 
 -- ---- the table of steps is the channel of a matrix

@@ -1,18 +1,17 @@
 -- The channel of a circuit without T gates is a signed permutation.
-use Rattle.std.proofs.Common.{◌≡◌, ◌≢◌, ℕ, zero, suc, ◌+◌, ◌-◌, ◌^◌, ◌<◌, ◌≤◌, Bool, true, false, List, [], ◌∷◌, refl, ap, sym, ◌∙◌, subst, inl, inr, arith}
+use Rattle.std.proofs.Common.{◌≡◌, ◌≢◌, ℕ, suc, ◌-◌, ◌^◌, ◌<◌, ◌≤◌, Bool, true, false, List, [], ◌∷◌, refl, ap, sym, ◌∙◌, subst, inl, inr, arith}
 use Rattle.std.specs.List.{AllByRecursion}
 use Rattle.std.proofs.lemmas.Bool.{cases_eq}
 use Rattle.ring_laws.specs.Ring.{power}
-use Rattle.ring_laws.specs.Matrix.{identity}
 use Rattle.ring_laws.proofs.Ring.{power-zero, power-suc, one-mul}
-use Rattle.tc_ring.specs.Surds.{Surd, surds, surd_times, surd_negative, one_surd, zero_surd, root2_surd}
+use Rattle.tc_ring.specs.Surds.{Surd, surds, surd_times, one_surd, zero_surd, root2_surd}
 use Rattle.tc_ring.proofs.Surds.{surds_laws, surd_times_assoc, odd_is_no_multiple}
 use Rattle.tc_circuit.specs.Model.{IsCircuit, t_count_of}
 use Rattle.tc_circuit.specs.declared.circuit.Gate.{Gate}
 use Rattle.tc_circuit.specs.declared.circuit.Gate.TheVariants.{H, S, Sdg, T, Tdg, Cx}
 use Rattle.pauli_basis.specs.Products.{Signed}
 use Rattle.channel_rep.specs.declared.gate.ChannelGate.{ChannelGate}
-use Rattle.channel_rep.specs.Cells.{ChannelGrid, table_of, scaled, HasOddCell, IsReduced, IsUnit, HasOneUnit, IsSignedPermutation}
+use Rattle.channel_rep.specs.Cells.{ChannelGrid, table_of, scaled, IsReduced, IsUnit, HasOneUnit, IsSignedPermutation}
 use Rattle.channel_rep.specs.Gates.{Fits, positive}
 use Rattle.channel_rep.specs.Tables.{ScaledTable, signed, built, IsBuiltOf}
 use Rattle.channel_rep.proofs.Rules.{one_at, zero_at}

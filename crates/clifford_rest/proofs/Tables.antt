@@ -1,9 +1,9 @@
 -- Tables with one entry in each column, 1 or −1, under gates.
-use Rattle.std.proofs.Common.{◌≡◌, ◌≢◌, ℕ, ◌+◌, ◌^◌, ◌<◌, ◌≤◌, Bool, true, false, List, [], ◌∷◌, refl, ap, sym, ◌∙◌, subst, inl, inr, arith}
+use Rattle.std.proofs.Common.{◌≡◌, ℕ, ◌+◌, ◌^◌, ◌<◌, ◌≤◌, Bool, true, false, List, [], ◌∷◌, refl, ap, sym, ◌∙◌, inl, inr, arith}
 use Rattle.std.specs.List.{AllByRecursion}
 use Rattle.std.proofs.lemmas.Bool.{cases_eq}
-use Rattle.ring_laws.specs.Matrix.{identity, product, Agree}
-use Rattle.tc_ring.specs.Surds.{Surd, surds, surd_negative, surd_integer, one_surd, zero_surd}
+use Rattle.ring_laws.specs.Matrix.{identity, Agree}
+use Rattle.tc_ring.specs.Surds.{Surd, surds, one_surd}
 use Rattle.ring_laws.proofs.Ring.{neg-neg}
 use Rattle.tc_ring.proofs.Surds.{surds_laws}
 use Rattle.pauli_basis.specs.Products.{Signed}
@@ -11,7 +11,7 @@ use Rattle.channel_rep.specs.declared.gate.ChannelGate.{ChannelGate}
 use Rattle.channel_rep.specs.declared.gate.ChannelGate.TheVariants.{H, S, Sdg, Cx}
 use Rattle.channel_rep.specs.Gates.{Fits, image, positive}
 use Rattle.channel_rep.specs.Rows.{moved}
-use Rattle.channel_rep.specs.Tables.{ScaledTable, Step, by_gate, signed, turned_over, stepped, built_on, built}
+use Rattle.channel_rep.specs.Tables.{ScaledTable, by_gate, signed, turned_over, stepped, built_on, built}
 use Rattle.channel_rep.proofs.Images.{image-lt, image-image}
 use Rattle.channel_rep.proofs.Rules.{one_at, zero_at, gate_rule}
 use Rattle.channel_rep.proofs.Signs.{signed-zero}

@@ -1,13 +1,12 @@
 -- The gates that the sweep undoes take every Pauli's image back to the Pauli.
-use Rattle.std.proofs.Common.{◌≡◌, ℕ, zero, suc, ◌+◌, ◌-◌, ◌*◌, ◌/◌, ◌%◌, ◌^◌, ◌<◌, ◌≤◌, bit_xor, Bool, true, false, not, ◌&&◌, T as Holds, eqb, eqb→eq, ltb, ltb→lt, List, [], ◌∷◌, ◌++◌, length, refl, ap, sym, ◌∙◌, subst, inl, inr, arith, mod-lt, lit<}
+use Rattle.std.proofs.Common.{◌≡◌, ℕ, zero, suc, ◌+◌, ◌*◌, ◌^◌, ◌<◌, ◌≤◌, Bool, true, false, not, ◌&&◌, T as Holds, ltb, ltb→lt, List, ◌++◌, length, refl, ap, sym, ◌∙◌, inl, inr, arith}
 use Rattle.std.specs.List.{AllByRecursion}
 use Rattle.std.proofs.lemmas.Bool.{cases_eq}
 use Rattle.std.proofs.lemmas.List.{length-append}
 use Rattle.std.proofs.lemmas.Nat.{xor_comm}
 use Rattle.tc_circuit.specs.Model.{ScaledMatrix, after}
 use Rattle.tc_circuit.proofs.Flips.{sizes}
-use Rattle.pauli_basis.specs.Letters.{letter_of}
-use Rattle.pauli_basis.specs.Products.{Signed, product_code, clashes, commute, turns, sign_turns}
+use Rattle.pauli_basis.specs.Products.{Signed, product_code, clashes, commute, sign_turns}
 use Rattle.pauli_basis.proofs.Small.{all, all_at, and_left, and_right}
 use Rattle.pauli_basis.proofs.Products.{product_code-lt, commute_both_orders}
 use Rattle.channel_rep.specs.declared.gate.ChannelGate.{ChannelGate}

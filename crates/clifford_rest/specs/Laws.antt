@@ -1,5 +1,5 @@
 -- What the laws of this crate say. Each speaks of any table of one to three qubits that a `Channel` may show.
-use Rattle.std.specs.Prelude.{◌≡◌, ℕ, ◌^◌, ◌<◌, ◌≤◌, List, length}
+use Rattle.std.specs.Prelude.{◌≡◌, ◌^◌, ◌<◌, ◌≤◌, List, length}
 use Rattle.std.specs.List.{AllByRecursion}
 use Rattle.ring_laws.specs.Matrix.{identity, Agree}
 use Rattle.tc_ring.specs.Surds.{surds}

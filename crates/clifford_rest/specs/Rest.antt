@@ -1,5 +1,5 @@
 -- The rest: the circuit without T gates that the sweep gives for a Clifford operator's channel.
-use Rattle.std.specs.Prelude.{⊤, ℕ, zero, suc, ◌*◌, ◌^◌, ◌==◌, ℤ, pos, negsuc, Bool, true, false, List, if◌then◌else◌}
+use Rattle.std.specs.Prelude.{⊤, ℕ, zero, suc, ◌^◌, ◌==◌, ℤ, pos, negsuc, Bool, true, false, List, if◌then◌else◌}
 use Rattle.tc_ring.specs.Surds.{Surd}
 use Rattle.tc_circuit.specs.declared.circuit.Gate.{Gate}
 use Rattle.pauli_basis.specs.Products.{Signed}

@@ -7,7 +7,7 @@ use Rattle.pauli_basis.specs.Products.{Signed}
 use Rattle.channel_rep.specs.Gates.{image}
 use Rattle.channel_rep.specs.Tables.{turned_over}
 use Rattle.channel_rep.specs.declared.gate.ChannelGate.{ChannelGate}
-use Rattle.channel_rep.specs.declared.gate.ChannelGate.TheVariants.{H, S, Sdg, Cx}
+use Rattle.channel_rep.specs.declared.gate.ChannelGate.TheVariants.{H, Sdg, Cx}
 
 -- ---- conjugation of a Pauli with a sign
 -- by one gate

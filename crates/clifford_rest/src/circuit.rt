@@ -62,7 +62,12 @@ fn image_behind(c: &Channel, gates: &[ChannelGate], code: u8) -> SignedPauli
 }
 
 /// The gates that undo qubit q of the operator of a signed permutation, with gates behind it.
-fn more_gates(alloc: Global, c: &Channel, gates: &[ChannelGate], q: u8) -> Result<QubitSweep, AllocError>
+fn more_gates(
+    alloc: Global,
+    c: &Channel,
+    gates: &[ChannelGate],
+    q: u8,
+) -> Result<QubitSweep, AllocError>
     requires permutation { IsSignedPermutation c.now }
     requires fit { AllByRecursion (Fits c.now.qubits) gates.now }
     requires qubit { q < c.now.qubits }

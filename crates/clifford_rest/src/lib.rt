@@ -6,15 +6,14 @@
 //! simulation of stabilizer circuits, 2004). [`laws`] has what this rests on, as facts.
 #![tactic(auto)]
 
+mod circuit;
 mod clearing;
 pub mod laws;
 mod pauli;
 mod qubit;
-mod circuit;
 mod steps;
 
 pub use circuit::rest;
-
 
 #[cfg(test)]
 mod tests;

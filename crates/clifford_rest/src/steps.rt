@@ -33,7 +33,12 @@ impl Model for QubitSweep {
 
 impl QubitSweep {
     /// A sweep that has undone nothing yet, of an operator on n qubits that makes `a` of X and `b` of Z.
-    pub(crate) fn start(alloc: Global, n: u8, a: SignedPauli, b: SignedPauli) -> Result<QubitSweep, AllocError>
+    pub(crate) fn start(
+        alloc: Global,
+        n: u8,
+        a: SignedPauli,
+        b: SignedPauli,
+    ) -> Result<QubitSweep, AllocError>
         requires some { 0 < n }
         requires few { n ≤ 3 }
         requires a_below { a.code < 4 ^ n }

@@ -1,4 +1,4 @@
-ghost use Rattle.std.specs.Prelude.{◌≡◌, ◌<◌, ◌≤◌, IfOk, IsTrue};
+ghost use Rattle.std.specs.Prelude.{◌≡◌, ◌^◌, ◌<◌, ◌≤◌, IfOk, IsTrue};
 ghost use Rattle.tc_circuit.specs.Gate.{Fits};
 ghost use Rattle.tc_circuit.specs.Model.{t_count_of};
 ghost use Rattle.channel_rep.specs.Cells.{scaled, IsSignedPermutation};
@@ -43,17 +43,42 @@ fn channel(rt: &impl Abort, alloc: Global, n: u8, gates: &[Gate]) -> Result<Chan
     Ok(channel)
 }
 
+// How many Pauli operators there are on n qubits.
+fn codes(n: u8) -> usize
+    requires { n ≤ 3 }
+    ensures { result ≡ 4 ^ n }
+{
+    match n {
+        0 => 1,
+        1 => 4,
+        2 => 16,
+        _ => 64,
+    }
+}
+
+// Whether two channels have the same cells in a row.
+fn same_row(a: &Channel, b: &Channel, row: usize) -> bool
+    requires same { a.now.qubits ≡ b.now.qubits }
+    requires row { row < 4 ^ a.now.qubits }
+{
+    for column in 0..codes(a.qubits()) {
+        if a.cell(row, column) != b.cell(row, column) {
+            return false;
+        }
+    }
+    true
+}
+
 // Whether two channels have the same cells.
 fn same(a: &Channel, b: &Channel) -> bool
     requires { a.now.qubits ≡ b.now.qubits }
 {
-    let size = 1usize << (2 * a.qubits());
-    for place in 0..size * size {
-        if a.cell(place / size, place % size) != b.cell(place / size, place % size) {
+    for row in 0..codes(a.qubits()) {
+        if !same_row(a, b, row) {
             return false;
         }
     }
-    a.exponent() == b.exponent()
+    true
 }
 
 // Asserts that the rest of the gates' channel has that channel.
@@ -92,7 +117,9 @@ fn drawn(alloc: Global, n: u8, seed: u64) -> Result<Vec<Gate>, Fail>
     let mut state = seed;
     let mut gates = Vec::new(alloc);
     for _ in 0..30 {
-        state = state.wrapping_mul(6_364_136_223_846_793_005).wrapping_add(1_442_695_040_888_963_407);
+        state = state
+            .wrapping_mul(6_364_136_223_846_793_005)
+            .wrapping_add(1_442_695_040_888_963_407);
         gates.push(gate(n, state >> 33))?;
     }
     Ok(gates)
@@ -113,7 +140,11 @@ fn images(rt: &impl Abort, c: &Channel) -> Result<u8, Fail>
 fn letters(alloc: Global, count: u8, number: u16) -> Result<Vec<Gate>, Fail> {
     let mut gates = Vec::new(alloc);
     for place in 0..count.min(15) {
-        gates.push(if (number >> place) % 2 == 0 { Gate::H(0) } else { Gate::S(0) })?;
+        gates.push(if (number >> place) % 2 == 0 {
+            Gate::H(0)
+        } else {
+            Gate::S(0)
+        })?;
     }
     Ok(gates)
 }
@@ -154,8 +185,28 @@ fn undo_lists(rt: HostRuntime) -> Result<(), Fail> {
     use channel_rep::ChannelGate::{Cx, H, Sdg};
     // −i·Z·Z on two qubits: X0 to −Y0 Z1, X1 to −Z0 Y1
     let half_turn = [Gate::Cx(0, 1), Gate::Sdg(1), Gate::Cx(0, 1)];
-    let half_turn_undone = [Sdg(0), H(1), Cx(0, 1), Sdg(0), Sdg(0), Sdg(1), H(1), Sdg(1), H(1)];
-    let half_turn_rest = [Gate::H(1), Gate::S(1), Gate::H(1), Gate::S(1), Gate::S(0), Gate::S(0), Gate::Cx(0, 1), Gate::H(1), Gate::S(0)];
+    let half_turn_undone = [
+        Sdg(0),
+        H(1),
+        Cx(0, 1),
+        Sdg(0),
+        Sdg(0),
+        Sdg(1),
+        H(1),
+        Sdg(1),
+        H(1),
+    ];
+    let half_turn_rest = [
+        Gate::H(1),
+        Gate::S(1),
+        Gate::H(1),
+        Gate::S(1),
+        Gate::S(0),
+        Gate::S(0),
+        Gate::Cx(0, 1),
+        Gate::H(1),
+        Gate::S(0),
+    ];
     let bell = [Gate::H(0), Gate::Cx(0, 1)];
     let bell_undone = [H(0), H(0), Cx(0, 1), H(0)];
     let bell_rest = [Gate::H(0), Gate::Cx(0, 1), Gate::H(0), Gate::H(0)];
@@ -163,13 +214,26 @@ fn undo_lists(rt: HostRuntime) -> Result<(), Fail> {
         (2, &half_turn, &half_turn_undone, &half_turn_rest),
         (2, &bell, &bell_undone, &bell_rest),
         (1, &[Gate::S(0)], &[Sdg(0)], &[Gate::S(0)]),
-        (1, &[Gate::S(0), Gate::S(0)], &[Sdg(0), Sdg(0)], &[Gate::S(0), Gate::S(0)]),
-        (3, &[Gate::H(0), Gate::H(1), Gate::H(2)], &[H(0), H(1), H(2)], &[Gate::H(2), Gate::H(1), Gate::H(0)]),
+        (
+            1,
+            &[Gate::S(0), Gate::S(0)],
+            &[Sdg(0), Sdg(0)],
+            &[Gate::S(0), Gate::S(0)],
+        ),
+        (
+            3,
+            &[Gate::H(0), Gate::H(1), Gate::H(2)],
+            &[H(0), H(1), H(2)],
+            &[Gate::H(2), Gate::H(1), Gate::H(0)],
+        ),
     ];
     for (n, gates, undone, want) in cases {
         assert!(rt; 0 < n && n <= 3);
         let c = channel(&rt, rt.alloc(), n, gates)?;
-        assert!(rt; undoing(rt.alloc(), &c)?.as_slice() == undone, "undone of {gates:?}");
+        assert!(rt;
+            undoing(rt.alloc(), &c)?.as_slice() == undone,
+            "undone of {gates:?}"
+        );
         assert!(rt; rest(rt.alloc(), &c)?.gates() == want, "rest of {gates:?}");
     }
     Ok(())

@@ -1,5 +1,5 @@
 -- The outcome for a text, from what the code found out.
-use Rattle.std.proofs.Common.{◌≡◌, ◌<◌, ◌≤◌, ℕ, List, [], sym, arith, inl, inr, subst, refl}
+use Rattle.std.proofs.Common.{◌≡◌, ◌<◌, ◌≤◌, ℕ, List, [], sym, ◌∙◌, arith, inl, inr, subst, refl}
 use Rattle.std.specs.Prelude.{codes, length}
 use Rattle.std.proofs.lemmas.Bool.{cases_eq}
 use Rattle.std.proofs.lemmas.List.Elements.{All-nil}
@@ -52,13 +52,28 @@ due_above have one permute c m bytes h qubits reduced none e text reads words co
 no_letters : (n t : ℕ) → t ≡ 0 → IsWord n t []
 no_letters n t e = (sym e, All-nil (λ (letter : List ℕ). IsLetter n letter))
 
--- a circuit that has the channel of one without T gates
-pub due_found : CircuitsHaveChannels → OneChannelWhereSame → (c : Gates) (m : ChannelGrid) (d : List Gate) (bytes : List ℕ)
-    → HasChannel c m → IsCircuit c.qubits d → t_count_of d ≡ 0 → IsBuiltOf c.qubits (steps_of d) (scaled m)
-    → Reads (shown c.qubits d []) (record { qubits = c.qubits; gates = d }) → bytes ≡ shown c.qubits d [] → IsDueFor c Found bytes
-due_found have one c m d bytes h fits no_t is back shows text reads words command short =
+-- the law that a print reads as its circuit
+abbrev pub PrintsRead : Type 0
+PrintsRead = (n t : ℕ) (gates : List Gate) (letters : List (List ℕ)) → 0 < n → n ≤ 3 → IsCircuit n gates → t_count_of gates ≤ 44 → length gates ≤ 4094
+    → IsWord n t letters → Reads (shown n gates letters) (record { qubits = n; gates = gates })
+
+-- the same where the circuit is on the text's qubits
+found_here : CircuitsHaveChannels → OneChannelWhereSame → PrintsRead → (c : Gates) (m : ChannelGrid) (d : List Gate) (bytes : List ℕ)
+    → HasChannel c m → IsCircuit c.qubits d → t_count_of d ≡ 0 → length d ≤ 45 → IsBuiltOf c.qubits (steps_of d) (scaled m)
+    → bytes ≡ shown c.qubits d [] → IsDueFor c Found bytes
+found_here have one prints c m d bytes h fits no_t short is shows text reads words command room =
     let same : Same c.qubits c.gates d =
-        (one c.qubits h.small.some h.small.few c.gates d h.small.fit fits (scaled m) (built c.qubits (steps_of d)) h.channel (have c.qubits h.small.some h.small.few d fits)).0 is in
+    (one c.qubits h.small.some h.small.few c.gates d h.small.fit fits (scaled m) (built c.qubits (steps_of d)) h.channel (have c.qubits h.small.some h.small.few d fits)).0 is in
     let best : IsOptimal c d = record { circuit = fits; same = same; least = record { reached = (d, fits, same, refl); least = λ x fx hx. omega (arith, no_t) } } in
-    subst (λ (b : List ℕ). Out words text Found b) (sym shows)
-    (found command short c d [] reads record { optimal = best; within = omega (arith, no_t); word = no_letters c.qubits (t_count_of d) no_t; reads = back })
+    let word = no_letters c.qubits (t_count_of d) no_t in
+    let back = prints c.qubits (t_count_of d) d [] h.small.some h.small.few fits (omega (arith, no_t)) (omega (arith, short)) word in
+    subst (λ (b : List ℕ). Out words text Found b) (sym shows) (found command room c d [] reads record { optimal = best; within = omega (arith, no_t); word = word; reads = back })
+
+-- a circuit whose channel is that of a circuit without T gates
+pub due_found : CircuitsHaveChannels → OneChannelWhereSame → PrintsRead → (c : Gates) (m : ChannelGrid) (d : Gates) (bytes : List ℕ)
+    → HasChannel c m → m.qubits ≡ c.qubits → d.qubits ≡ m.qubits → IsSmallCircuit d → t_count_of d.gates ≡ 0 → length d.gates ≤ 45
+    → IsBuiltOf m.qubits (steps_of d.gates) (scaled m) → bytes ≡ shown d.qubits d.gates [] → IsDueFor c Found bytes
+due_found have one prints c m d bytes h qubits those small no_t short is shows =
+    let same = those ∙ qubits in
+    found_here have one prints c m d.gates bytes h (subst (λ (n : ℕ). IsCircuit n d.gates) same small.fit) no_t short
+    (subst (λ (n : ℕ). IsBuiltOf n (steps_of d.gates) (scaled m)) qubits is) (subst (λ (n : ℕ). bytes ≡ shown n d.gates []) same shows)

@@ -5,11 +5,10 @@ use Rattle.std.proofs.lemmas.Bool.{ltb-false}
 use Rattle.tc_circuit.specs.Circuit.{Gates}
 use Rattle.tc_circuit.specs.Model.{t_count_of}
 use Rattle.tc_circuit.specs.declared.circuit.Gate.{Gate}
-use Rattle.qasm_reader.specs.declared.refusal.Refusal.{Refusal}
 use Rattle.qasm_reader.specs.Forms.{Form, Include, Qreg, Creg, Barrier, Apply}
 use Rattle.qasm_reader.specs.State.{State, start, after, gates_in}
 use Rattle.qasm_reader.specs.Rows.{Statement, row_of, has_too_many_t}
-use Rattle.qasm_reader.specs.Read.{Reads, scan, refused_or, place_of, Refuser}
+use Rattle.qasm_reader.specs.Read.{Reads, scan, refused_or, place_of}
 use Rattle.qasm_reader.proofs.Placing.{t_count-append}
 use Rattle.qasm_reader.proofs.Takeable.{unrefused}
 
@@ -28,11 +27,11 @@ few_behind s (Some (Apply name args)) few e =
 -- the state behind all statements keeps to it
 few_scanned : (ps : List Statement) (s t : State) → t_count_of s.gates ≤ 44 → scan s ps ≡ Ok t → t_count_of t.gates ≤ 44
 few_scanned [] s t few e = let same : s ≡ t = cc in subst (λ (x : State). t_count_of x.gates ≤ 44) same few
-few_scanned (p ∷ ps) s t few e = by (row_of s p) refl e
-  where
-    by : (o : Option Refusal) → row_of s p ≡ o → refused_or o (place_of 0 p.lexemes) (scan (after s p.form) ps) ≡ Ok t → t_count_of t.gates ≤ 44
-    by (Some why) r h = absurd (let no : Err (record { refusal = why; place = place_of 0 p.lexemes }) ≡ Ok t = h in cc)
-    by None r h = few_scanned ps (after s p.form) t (few_behind s p.form few (unrefused s p r).t) h
+few_scanned (p ∷ ps) s t few e =
+    elim (row_of s p) as (λ o. row_of s p ≡ o → refused_or o (place_of 0 p.lexemes) (scan (after s p.form) ps) ≡ Ok t → t_count_of t.gates ≤ 44) [
+      | None ↦ λ r h. few_scanned ps (after s p.form) t (few_behind s p.form few (unrefused s p r).t) h
+      | Some why ↦ λ r h. absurd (cc)
+    ] refl e
 
 -- at most 44 T gates
 pub few_t_gates : (text : List ℕ) (c : Gates) → Reads text c → t_count_of c.gates ≤ 44

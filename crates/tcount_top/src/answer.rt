@@ -24,15 +24,15 @@ fn refusal(alloc: Global, number: u8, place: usize) -> Result<Vec<u8>, AllocErro
 }
 
 // The outcome for a circuit. It has a circuit without T gates exactly where its channel is a signed permutation.
-fn answer_for(alloc: Global, circuit: &Circuit) -> Result<(Status, Vec<u8>), AllocError>
-    requires { t_count_of circuit.now.gates ≤ 44 }
-    ensures { IfOk result (λ r. IsDueFor circuit.now r.0 r.1.items) }
+fn answer_for(alloc: Global, circuit: Circuit) -> Result<(Status, Vec<u8>), AllocError>
+    requires { t_count_of circuit.gates ≤ 44 }
+    ensures { IfOk result (λ r. IsDueFor circuit r.0 r.1.items) }
 {
     circuits_have_one_channel();
     one_channel_where_same();
     circuits_have_permutations();
     printed_texts_read_back();
-    let channel = channel_of(alloc, circuit)?;
+    let channel = channel_of(alloc, &circuit)?;
     if !channel.signed_permutation() {
         return Ok((Status::Above, Vec::from_slice(alloc, b"above 0\n")?));
     }
@@ -45,7 +45,7 @@ pub(crate) fn answer(alloc: Global, text: &[u8]) -> Result<(Status, Vec<u8>), Al
     ensures { IfOk result (λ r. IsDue text.now r.0 r.1.items) }
 {
     match read(alloc, text) {
-        Ok(circuit) => answer_for(alloc, &circuit),
+        Ok(circuit) => answer_for(alloc, circuit),
         Err(ReadFault::Refused { number, place }) => {
             Ok((Status::Refused, refusal(alloc, number, place)?))
         }

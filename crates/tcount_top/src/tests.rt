@@ -70,9 +70,29 @@ fn outcomes(rt: HostRuntime) -> Result<(), Fail> {
             "// t-count 0\n// word\nOPENQASM 2.0;\ninclude \"qelib1.inc\";\nqreg q[1];\nh q[0];\ns q[0];\ns q[0];\nh q[0];\n",
         ),
         (
-            "OPENQASM 2.0;\nqreg q[2];\n",
-            Status::Refused,
-            "refused 99\n",
+            "OPENQASM 2.0;\nqreg q[3];\nccx q[0],q[1],q[2];\nccx q[0],q[1],q[2];\n",
+            Status::Found,
+            "// t-count 0\n// word\nOPENQASM 2.0;\ninclude \"qelib1.inc\";\nqreg q[3];\n",
+        ),
+        (
+            "OPENQASM 2.0;\nqreg q[3];\nccx q[0],q[1],q[2];\n",
+            Status::Above,
+            "above 0\n",
+        ),
+        (
+            "OPENQASM 2.0;\nqreg q[3];\nh q;\n",
+            Status::Found,
+            "// t-count 0\n// word\nOPENQASM 2.0;\ninclude \"qelib1.inc\";\nqreg q[3];\nh q[2];\nh q[1];\nh q[0];\n",
+        ),
+        (
+            "OPENQASM 2.0;\nqreg a[2];\nqreg b[1];\n",
+            Status::Found,
+            "// t-count 0\n// word\nOPENQASM 2.0;\ninclude \"qelib1.inc\";\nqreg q[3];\n",
+        ),
+        (
+            "OPENQASM 2.0;\nqreg q[2];\nt q[0];\ncx q[0],q[1];\ntdg q[0];\n",
+            Status::Found,
+            "// t-count 0\n// word\nOPENQASM 2.0;\ninclude \"qelib1.inc\";\nqreg q[2];\ncx q[0],q[1];\n",
         ),
         ("", Status::Refused, "refused 1 at 0\n"),
         ("OPENQASM 2.0;\n", Status::Refused, "refused 8 at 14\n"),
@@ -146,6 +166,7 @@ fn limits(rt: HostRuntime) -> Result<(), Fail> {
     let alloc = rt.alloc();
     let one = "OPENQASM 2.0;\nqreg q[1];\n";
     let nothing = "// t-count 0\n// word\nOPENQASM 2.0;\ninclude \"qelib1.inc\";\nqreg q[1];\n";
+    let h = "// t-count 0\n// word\nOPENQASM 2.0;\ninclude \"qelib1.inc\";\nqreg q[1];\nh q[0];\n";
     let z =
         "// t-count 0\n// word\nOPENQASM 2.0;\ninclude \"qelib1.inc\";\nqreg q[1];\ns q[0];\ns q[0];\n";
     let rows = [
@@ -153,11 +174,11 @@ fn limits(rt: HostRuntime) -> Result<(), Fail> {
         (one, "t q[0];\n", 45, Status::Refused, "refused 9 at 377\n"),
         (one, "t q[0];\nh q[0];\n", 44, Status::Above, "above 0\n"),
         (one, "h q[0];\n", 120, Status::Found, nothing),
-        (one, "h q[0];\n", 121, Status::Refused, "refused 99\n"),
-        // h s has order 3 up to phase, and cells grow to 2^60.
+        (one, "h q[0];\n", 121, Status::Found, h),
+        // h s has order 3 up to phase.
         (one, "h q[0];\ns q[0];\n", 120, Status::Found, nothing),
         (one, "z q[0];\n", 4095, Status::Found, z),
-        (one, "h q[0];\n", 4095, Status::Refused, "refused 99\n"),
+        (one, "h q[0];\n", 4095, Status::Found, h),
         (
             one,
             "h q[0];\n",
@@ -178,6 +199,21 @@ fn limits(rt: HostRuntime) -> Result<(), Fail> {
         );
         assert!(rt; sink.bytes() == bytes.as_bytes(), "{line:?} {times}");
     }
+    Ok(())
+}
+
+// What was written is read again, and comes out the same.
+#[test]
+fn stable(rt: HostRuntime) -> Result<(), Fail> {
+    let alloc = rt.alloc();
+    let text = b"OPENQASM 2.0;\nqreg q[2];\nh q[0];\ncx q[0],q[1];\ns q[1];\nh q[1];\nz q[0];\n";
+    let mut first = MemSink::new(alloc, 400, 400, Vec::new(alloc))?;
+    let mut source = CleanSource::new(Vec::from_slice(alloc, text.as_slice())?);
+    assert_eq!(rt; run(alloc, &WORDS, &mut source, &mut first), Status::Found);
+    let mut second = MemSink::new(alloc, 400, 400, Vec::new(alloc))?;
+    let mut again = CleanSource::new(Vec::from_slice(alloc, first.bytes())?);
+    assert_eq!(rt; run(alloc, &WORDS, &mut again, &mut second), Status::Found);
+    assert!(rt; first.bytes() == second.bytes());
     Ok(())
 }
 

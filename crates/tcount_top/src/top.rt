@@ -51,7 +51,7 @@ impl Status {
 const LONGEST: usize = 65536;
 
 /// What is written where the words are no command.
-const USAGE: &str = "usage: synth M W | check | levels N K W | bench N T SEED M W\n";
+const USAGE: &[u8] = b"usage: synth M W | check | levels N K W | bench N T SEED M W\n";
 
 // Whether three words are those of the command.
 fn are_synth(command: &str, bound: &str, workers: &str) -> bool
@@ -111,7 +111,7 @@ pub fn run<S: Source, K: Sink>(alloc: Global, words: &[&str], src: &mut S, sink:
     ensures writes { K.faults sink.old ≤ K.faults sink.new }
 {
     if !is_command(words) {
-        return respond(sink, USAGE.as_bytes(), Status::Usage);
+        return respond(sink, USAGE, Status::Usage);
     }
     let text = match read_all(alloc, src, LONGEST) {
         Ok(text) => text,

@@ -1,14 +1,12 @@
-use Rattle.std.proofs.Common.{◌≡◌, ◌≤◌, List, length, ap, sym, ◌∙◌, subst, arith}
+use Rattle.std.proofs.Common.{◌≡◌, ◌≤◌, List, length, sym, subst, arith}
 use Rattle.std.specs.List.{AllByRecursion}
 use Rattle.tc_circuit.specs.Model.{matrix_of, t_count_of}
 use Rattle.tc_circuit.specs.declared.circuit.Gate.{Gate}
 use Rattle.channel_rep.specs.Cells.{scaled}
 use Rattle.channel_rep.specs.Tables.{IsBuiltOf}
-use Rattle.channel_rep.specs.declared.gate.ChannelGate.{ChannelGate}
-use Rattle.tc_bridge.specs.Block.{as_gates, undone}
 use Rattle.tc_bridge.specs.Channel.{IsChannel}
 use Rattle.tc_bridge.specs.Steps.{steps_of}
-use Rattle.clifford_rest.specs.Rest.{IsRestGate, rest_of}
+use Rattle.clifford_rest.specs.Rest.{IsRestGate}
 use Rattle.clifford_rest.proofs.Lists.{rest_gates}
 use Rattle.clifford_rest.proofs.Rests.{rest_kinds, rest_count, rest_short, rest_built, rest_channel}
 use Rattle.clifford_rest.proofs.circuit.rest.Goals as goal

@@ -1,4 +1,4 @@
-use Rattle.std.proofs.Common.{◌≡◌, ◌≤◌, drop, length}
+use Rattle.std.proofs.Common.{◌≡◌, drop}
 use Rattle.tc_bridge.specs.Block.{as_gates, undone}
 use Rattle.clifford_rest.proofs.circuit.reversed.Given as goal
 

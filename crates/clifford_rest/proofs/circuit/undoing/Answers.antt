@@ -1,7 +1,6 @@
-use Rattle.std.proofs.Common.{◌≡◌, ◌++◌, List, sym, ◌∙◌, subst}
+use Rattle.std.proofs.Common.{◌≡◌, ◌++◌, sym, ◌∙◌, subst}
 use Rattle.std.specs.List.{AllByRecursion}
 use Rattle.channel_rep.specs.Gates.{Fits}
-use Rattle.channel_rep.specs.declared.gate.ChannelGate.{ChannelGate}
 use Rattle.tc_bridge.proofs.Conjugations.{all-append}
 use Rattle.clifford_rest.specs.Sweep.{undo_list}
 use Rattle.clifford_rest.proofs.Lists.{undo_list_more}
@@ -17,6 +16,7 @@ loop-q-preserved c =
     let gates = c.loop-q.gates.items in
     let more = c.gates.result.now in
     let new : c.extend_from_slice.new.self.items ≡ gates ++ more = c.in_ok-extend_from_slice.ensures.items in
-    let fit : AllByRecursion (Fits n) more = subst (λ m. AllByRecursion (Fits m) more) c.in_ok-swept.ensures.qubits c.gates.ensures.fit in
-    (undo_list_more c.args.c.now c.loop-q.q gates c.deref.result.now more _ c.loop-q.invariant.0 c.deref.ensures.value (c.gates.ensures.value ∙ c.in_ok-swept.ensures.gates) new,
-     subst (AllByRecursion (Fits n)) (sym new) (all-append (Fits n) gates more c.loop-q.invariant.1 fit))
+    let fit : AllByRecursion (Fits n) more = subst (λ m. AllByRecursion (Fits m) more) c.in_ok-swept.ensures.qubits c.gates.ensures.fit in (
+      undo_list_more c.args.c.now c.loop-q.q gates c.deref.result.now more _ c.loop-q.invariant.0 c.deref.ensures.value (c.gates.ensures.value ∙ c.in_ok-swept.ensures.gates) new,
+      subst (AllByRecursion (Fits n)) (sym new) (all-append (Fits n) gates more c.loop-q.invariant.1 fit),
+    )

@@ -1,5 +1,4 @@
 use Rattle.std.proofs.Common.{ℕ, List, sym, ap, subst, Err}
-use Rattle.std.specs.Prelude.{string_bytes}
 use Rattle.tcount_top.specs.Words.{texts_of, IsCommand, usage_line}
 use Rattle.tcount_top.specs.Out.{IsDue}
 use Rattle.tcount_top.specs.declared.top.Status.TheVariants.{Refused, Usage}
@@ -25,6 +24,6 @@ returns-in-Err-TooLong-clause-answers g c =
 pub returns-in-Ok-answer-clause-answers : goal.returns-in-Ok-answer-clause-answers
 returns-in-Ok-answer-clause-answers g c =
     let command = c.is_command.ensures.0 c.if-not-is_command.false in
-    let due = subst (λ (bytes : List ℕ). IsDue c.in-Ok.text.items c.in-Ok-answer.status bytes) (sym c.as_str.ensures.value)
-    (subst (λ (text : List ℕ). IsDue text c.in-Ok-answer.status (string_bytes c.in-Ok-answer.bytes)) c.deref.ensures.value c.in-Ok-answer.ensures) in
+    let due = subst (λ (bytes : List ℕ). IsDue c.in-Ok.text.items c.in-Ok-answer.status bytes) (sym c.deref-in-Ok-answer.ensures.value)
+    (subst (λ (text : List ℕ). IsDue text c.in-Ok-answer.status c.in-Ok-answer.bytes.items) c.deref.ensures.value c.in-Ok-answer.ensures) in
     responded_due _ _ _ _ _ _ _ _ _ c.in-Ok-answer.status _ c.in-Ok.text.items _ command c.in-Ok.ensures.ok due c.respond-in-Ok-answer.ensures.responds

@@ -1,4 +1,4 @@
-use Rattle.std.proofs.Common.{◌≡◌, suc, ◌-◌}
+use Rattle.std.proofs.Common.{◌≡◌, ◌-◌}
 use Rattle.clifford_rest.specs.Sweep.{each, clear_b}
 use Rattle.clifford_rest.proofs.steps.QubitSweep.clear_all_b.Given as goal
 
