@@ -7,7 +7,7 @@ use Rattle.qasm_reader.specs.Read.{Reads, Refused as IsRefused}
 use Rattle.tc_circuit.specs.Circuit.{Gates, IsSmallCircuit}
 use Rattle.tc_circuit.specs.Model.{IsCircuit, Same, matrix_of, t_count_of}
 use Rattle.tc_circuit.specs.declared.circuit.Gate.{Gate}
-use Rattle.channel_rep.specs.Tables.{SameTable, IsBuiltOf, built}
+use Rattle.channel_rep.specs.Tables.{IsBuiltOf, built}
 use Rattle.channel_rep.specs.Cells.{ChannelGrid, scaled, IsReduced, IsSignedPermutation}
 use Rattle.tc_bridge.specs.Channel.{IsChannel}
 use Rattle.tc_bridge.specs.Steps.{steps_of}
@@ -15,7 +15,7 @@ use Rattle.tc_bridge.specs.Laws.{CircuitsHaveChannels, OneChannelWhereSame}
 use Rattle.clifford_rest.specs.Laws.{CircuitsHavePermutations}
 use Rattle.circuit_writer.specs.Shown.{IsLetter, IsWord, shown}
 use Rattle.tcount_top.specs.Refusal.{refusal_line}
-use Rattle.tcount_top.specs.Out.{Out, ShowsOptimal, IsDue, IsDueFor, IsAbove, IsOptimal, refused, found, above}
+use Rattle.tcount_top.specs.Out.{Out, IsDue, IsDueFor, IsAbove, IsOptimal, refused, found, above}
 use Rattle.tcount_top.specs.declared.top.Status.TheVariants.{Found, Above, Refused}
 
 -- a text that is refused

@@ -1,4 +1,4 @@
-use Rattle.std.proofs.Common.{ℕ, ◌≡◌, sym, subst, ◌∙◌}
+use Rattle.std.proofs.Common.{ℕ, sym, subst}
 use Rattle.tc_circuit.specs.Circuit.{IsSmallCircuit}
 use Rattle.channel_rep.specs.Tables.{IsCircuitChannel}
 use Rattle.channel_rep.specs.Cells.{scaled}
