@@ -29,15 +29,18 @@ pub record Acts (n : ℕ) (u : Table) (p : ℕ) (s : Signed) : Type 0 where
   pub below : s.code < 4 ^ n
   pub is : Alike cyclotomics (2 ^ n) (product cyclotomics (2 ^ n) u (pauli_matrix n p)) (multiple cyclotomics (sign s.is_negative) (product cyclotomics (2 ^ n) (pauli_matrix n s.code) u))
 
+-- a gate acts on a code by its image
 pub acts_gate : (n : ℕ) → 0 < n → n ≤ 3 → (g : ChannelGate) → Fits n g → (q : ℕ) → q < 4 ^ n → Acts n (gate_table (as_gate g)) q (image n g q)
 acts_gate n some few g fits q l = record { below = image-lt n some few g fits q l; is = gate_conjugates n some few g fits q l }
 
+-- the identity leaves each Pauli
 pub acts_identity : (n p : ℕ) → p < 4 ^ n → Acts n (identity cyclotomics) p (positive p)
 acts_identity n p l = record {
   below = l;
   is = one-product laws (pauli_matrix n p) ⊙ alike-sym (multiple-factor laws sign-false _ ⊙ multiple-one laws _ ⊙ product-one laws (pauli_matrix n p));
 }
 
+-- one matrix behind another: the codes go on, and the signs multiply
 pub acts_product : (n : ℕ) (u v : Table) (p : ℕ) (s t : Signed) → Acts n u p s → Acts n v s.code t
     → Acts n (product cyclotomics (2 ^ n) v u) p (record { code = t.code; is_negative = turned_over s.is_negative t.is_negative })
 acts_product n u v p s t h g = record {
@@ -55,6 +58,7 @@ acts_after n some few [] fits m p s h = h
 acts_after n some few (g ∷ gates) fits m p s h =
     acts_after n some few gates fits.1 _ p (conjugated n g s) (acts_product n m.table (gate_table (as_gate g)) p s (image n g s.code) h (acts_gate n some few g fits.0 s.code h.below))
 
+-- a circuit of Clifford gates acts by their images, one after another
 pub acts_circuit : (n : ℕ) → 0 < n → n ≤ 3 → (gates : List ChannelGate) → AllByRecursion (Fits n) gates → (p : ℕ) → p < 4 ^ n
     → Acts n (matrix_of n (as_gates gates)).table p (conjugated_by n gates (positive p))
 acts_circuit n some few gates fits p l = acts_after n some few gates fits (record { table = identity cyclotomics; exponent = 0 }) p (positive p) (acts_identity n p l)
@@ -65,6 +69,7 @@ pub record HasEntry (n : ℕ) (c : ScaledTable) (column : ℕ) (s : Signed) : Ty
   pub below : s.code < 4 ^ n
   pub is : (row : ℕ) → row < 4 ^ n → c.table row column ≡ signed s.is_negative (identity surds row s.code)
 
+-- the entry among the numbers of Z[ω]
 entry : (n : ℕ) (c : ScaledTable) (column : ℕ) (s : Signed) → HasEntry n c column s → (row : ℕ) → row < 4 ^ n
     → embed (c.table row column) ≡ times (sign s.is_negative) (identity cyclotomics row s.code)
 entry n c column s h row l = ap embed (h.is row l) ∙ embed-signed s.is_negative (identity surds row s.code) ∙ ap (times (sign s.is_negative)) (embed-identity row s.code)

@@ -15,32 +15,38 @@ use Rattle.tc_bridge.proofs.GateTerms.{all_cliffords, each_clifford}
 use Rattle.tc_bridge.proofs.Conjugations.{inverse_fits, undone_fits}
 use Rattle.clifford_rest.specs.Sweep.{conjugated, conjugated_by}
 
+-- gates behind gates
 pub conjugated_by-append : (n : ℕ) (c d : List ChannelGate) (s : Signed) → conjugated_by n (c ++ d) s ≡ conjugated_by n d (conjugated_by n c s)
 conjugated_by-append n [] d s = refl
 conjugated_by-append n (g ∷ c) d s = conjugated_by-append n c d (conjugated n g s)
 
 -- ---- the inverse gate turns back
-abbrev pub turns_back : ℕ → ChannelGate → ℕ → Bool
+abbrev turns_back : ℕ → ChannelGate → ℕ → Bool
 turns_back n g p =
     let s = image n g p in
     let t = image n (inverse_gate g) s.code in
     eqb t.code p && beq s.is_negative t.is_negative
 
-abbrev pub all_turn_back : ℕ → ChannelGate → Bool
+-- at every code
+abbrev all_turn_back : ℕ → ChannelGate → Bool
 all_turn_back n g = all (4 ^ n) (turns_back n g)
 
+-- on one qubit
 back_1 : Holds (all_cliffords 1 (all_turn_back 1))
 unfolding image turns
 back_1 = tt
 
+-- on two qubits
 back_2 : Holds (all_cliffords 2 (all_turn_back 2))
 unfolding image turns
 back_2 = tt
 
-pub back_3 : Holds (all_cliffords 3 (all_turn_back 3))
+-- on three qubits
+back_3 : Holds (all_cliffords 3 (all_turn_back 3))
 unfolding image turns
 back_3 = tt
 
+-- the inverse's inverse is the gate
 inverse-inverse : (g : ChannelGate) → inverse_gate (inverse_gate g) ≡ g
 inverse-inverse (H q) = refl
 inverse-inverse (S q) = refl
@@ -48,6 +54,7 @@ inverse-inverse (Sdg q) = refl
 inverse-inverse (Cx c t) = refl
 
 module _ (n : ℕ) (some : 0 < n) (few : n ≤ 3) where
+  -- the test at a gate and a code
   turned_back : (g : ChannelGate) → Fits n g → (p : ℕ) → p < 4 ^ n → Holds (turns_back n g p)
   turned_back g fits p l = all_at (4 ^ n) (turns_back n g) (each_clifford all_turn_back back_1 back_2 back_3 n some few g fits) p l
 
@@ -60,6 +67,7 @@ module _ (n : ℕ) (some : 0 < n) (few : n ≤ 3) where
   cancel_signs a true false e = absurd cc
   cancel_signs a false true e = absurd cc
 
+  -- a gate and then its inverse
   pub conjugated-inverse : (g : ChannelGate) → Fits n g → (s : Signed) → s.code < 4 ^ n → conjugated n (inverse_gate g) (conjugated n g s) ≡ s
   conjugated-inverse g fits s l =
       let h = turned_back g fits s.code l in
@@ -70,6 +78,7 @@ module _ (n : ℕ) (some : 0 < n) (few : n ≤ 3) where
         is_negative = cancel_signs s.is_negative u.is_negative t.is_negative (beq_is u.is_negative t.is_negative (and_right (eqb t.code s.code) _ h)) i;
       }
 
+  -- conjugates are codes of as many qubits
   pub conjugated_by-lt : (gates : List ChannelGate) → AllByRecursion (Fits n) gates → (s : Signed) → s.code < 4 ^ n → (conjugated_by n gates s).code < 4 ^ n
   conjugated_by-lt [] fits s l = l
   conjugated_by-lt (g ∷ gates) fits s l = conjugated_by-lt gates fits.1 (conjugated n g s) (image-lt n some few g fits.0 s.code l)
@@ -87,6 +96,7 @@ module _ (n : ℕ) (some : 0 < n) (few : n ≤ 3) where
   inverse-conjugated g fits s l =
       ap (λ (k : ChannelGate). conjugated n k (conjugated n (inverse_gate g) s)) (sym (inverse-inverse g)) ∙ conjugated-inverse (inverse_gate g) (inverse_fits n g fits) s l
 
+  -- the inverses in reverse order and then the gates
   pub undone-conjugated_by : (gates : List ChannelGate) → AllByRecursion (Fits n) gates → (s : Signed) → s.code < 4 ^ n → conjugated_by n gates (conjugated_by n (undone gates) s) ≡ s
   undone-conjugated_by [] fits s l = refl
   undone-conjugated_by (g ∷ gates) fits s l =
@@ -100,6 +110,7 @@ pub conjugated_code : (n : ℕ) (gates : List ChannelGate) (s t : Signed) → s.
 conjugated_code n [] s t e = e
 conjugated_code n (g ∷ gates) s t e = conjugated_code n gates (conjugated n g s) (conjugated n g t) (ap (λ (k : ℕ). (image n g k).code) e)
 
+-- as many inverses as gates
 pub length-undone : (gates : List ChannelGate) → length (undone gates) ≡ length gates
 length-undone [] = refl
 length-undone (g ∷ gates) = let e = length-append (undone gates) (inverse_gate g ∷ []) in omega (arith, e, length-undone gates)

@@ -27,14 +27,17 @@ pub record IsInvertible (n : ℕ) (u : Table) : Type 0 where
   pub roots : ℕ
   pub is : Alike cyclotomics (2 ^ n) (product cyclotomics (2 ^ n) u inverse) (multiple cyclotomics (power cyclotomics root2 roots) (identity cyclotomics))
 
+-- the identity
 pub invertible_identity : (n : ℕ) → IsInvertible n (identity cyclotomics)
 invertible_identity n = record { inverse = identity cyclotomics; roots = 0; is = one-product laws _ ⊙ alike-sym (multiple-factor laws (power-zero laws root2) _ ⊙ multiple-one laws _) }
 
+-- a Clifford gate, by its conjugate transpose
 pub invertible_gate : (n : ℕ) → 0 < n → n ≤ 3 → (g : ChannelGate) → Fits n g → IsInvertible n (gate_table (as_gate g))
 invertible_gate n some few g fits =
     let e = gate_exponent (as_gate g) in
     record { inverse = adjoint (gate_table (as_gate g)); roots = e + e; is = (unitary_gate n some few (as_gate g) (gate_fits n g fits)).right }
 
+-- a product, by the inverses in the other order
 pub invertible_product : (n : ℕ) (v u : Table) → IsInvertible n v → IsInvertible n u → IsInvertible n (product cyclotomics (2 ^ n) v u)
 invertible_product n v u hv hu = record {
   inverse = product cyclotomics (2 ^ n) hu.inverse hv.inverse;
@@ -53,23 +56,28 @@ invertible_after n some few (g ∷ gates) fits m h = invertible_after n some few
 abbrev first_part : Bool → Zω
 first_part inverse = plus one_number (step_turn inverse)
 
+-- what stands before P
 abbrev second_part : Bool → Zω
 second_part inverse = plus one_number (negative (step_turn inverse))
 
+-- the part at the identity
 four : (inverse : Bool) → Holds (same_number (plus (times (first_part inverse) (first_part (not inverse))) (times (second_part inverse) (second_part (not inverse)))) (power cyclotomics root2 4))
 unfolding power integer plus times negative ω root2
 four true = tt
 four false = tt
 
+-- the part at P
 nothing_left : (inverse : Bool) → Holds (same_number (plus (times (first_part inverse) (second_part (not inverse))) (times (second_part inverse) (first_part (not inverse)))) zero_number)
 unfolding power integer plus times negative ω
 nothing_left true = tt
 nothing_left false = tt
 
+-- a multiple of the identity, with nothing at P
 scalar_axis : (n : ℕ) (a b : Zω) (p : ℕ) → b ≡ zero_number → Alike cyclotomics (2 ^ n) (axis n a b p) (multiple cyclotomics a (identity cyclotomics))
 unfolding axis multiple
 scalar_axis n a b p e = alike (λ r c. ap (λ x. plus (times a (identity cyclotomics r c)) (times x (pauli_matrix n p r c))) e ∙ ap (plus (times a (identity cyclotomics r c))) (zero-times _) ∙ plus-zero _)
 
+-- a rotation, or its inverse, by the other
 pub invertible_rotation : (n : ℕ) (inverse : Bool) (p : ℕ) → IsInvertible n (turned_axis n inverse p)
 invertible_rotation n inverse p = record {
   inverse = turned_axis n (not inverse) p;

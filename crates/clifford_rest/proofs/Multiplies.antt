@@ -23,39 +23,48 @@ use Rattle.clifford_rest.proofs.Invertible.{IsInvertible}
 abbrev i_to : ℕ → Zω
 i_to k = power cyclotomics imaginary k
 
+-- two powers below four
 powers_apart : Holds (all 4 (λ m. all 4 (λ k. eqb m k || not (same_number (i_to m) (i_to k)))))
 unfolding power integer plus times negative ω imaginary
 powers_apart = tt
 
+-- and zero
 powers_nonzero : Holds (all 4 (λ m. not (same_number (i_to m) zero_number)))
 unfolding power integer plus times negative ω imaginary
 powers_nonzero = tt
 
+-- a power is the same as itself
 powers_same : Holds (all 4 (λ m. same_number (i_to m) (i_to m)))
 unfolding power integer plus times negative ω imaginary
 powers_same = tt
 
+-- what is left where the second half fails
 either : (a b : Bool) → Holds b → Holds (a || not b) → Holds a
 either true b h g = tt
 either false true h g = absurd g
 either false false h g = absurd h
 
+-- a test and its opposite
 never : (b : Bool) → Holds b → Holds (not b) → ⊥
 never true h g = g
 never false h g = h
 
+-- a remainder by four
 below_four : (k : ℕ) → k % 4 < 4
 below_four k = mod-lt k {m = 4} (lit< tt)
 
+-- only the turns beyond whole ones count
 power_rest : (k : ℕ) → i_to k ≡ i_to (k % 4)
 power_rest k = imaginary-mod k (k % 4) (omega (arith, below_four k))
 
+-- equal powers have equal turns
 turns_from_powers : (m k : ℕ) → i_to m ≡ i_to k → m % 4 ≡ k % 4
 turns_from_powers m k e =
     eqb→eq (m % 4) (k % 4) (either _ (same_number (i_to (m % 4)) (i_to (m % 4))) (all_at 4 (λ m. same_number (i_to m) (i_to m)) powers_same (m % 4) (below_four m))
     (subst (λ (x : Zω). Holds (eqb (m % 4) (k % 4) || not (same_number (i_to (m % 4)) x))) (sym (power_rest k) ∙ sym e ∙ power_rest m)
     (all_at2 4 4 (λ m k. eqb m k || not (same_number (i_to m) (i_to k))) powers_apart (m % 4) (k % 4) (below_four m) (below_four k))))
 
+-- no power is zero
 power_nonzero : (m : ℕ) → i_to m ≡ zero_number → ⊥
 power_nonzero m e =
     never (same_number (i_to (m % 4)) (i_to (m % 4))) (all_at 4 (λ m. same_number (i_to m) (i_to m)) powers_same (m % 4) (below_four m))
@@ -73,10 +82,12 @@ module _ (n : ℕ) (u : Table) (invertible : IsInvertible n u) where
       (multiple cyclotomics (power cyclotomics root2 invertible.roots) (multiple cyclotomics x (pauli_matrix n p)))
   stripped x p = multiple-product laws x _ invertible.inverse ⊙ multiple-cong laws x (assoc laws (pauli_matrix n p) u invertible.inverse ⊙ product-left laws (pauli_matrix n p) invertible.is ⊙ product-scalar laws _ (pauli_matrix n p)) ⊙ multiple_comm laws x _ _
 
+  -- multiples of two Paulis times U are equal where those of the Paulis are
   bare : (x y : Zω) (p q : ℕ) → Alike cyclotomics (2 ^ n) (multiple cyclotomics x (product cyclotomics (2 ^ n) (pauli_matrix n p) u)) (multiple cyclotomics y (product cyclotomics (2 ^ n) (pauli_matrix n q) u))
       → Alike cyclotomics (2 ^ n) (multiple cyclotomics x (pauli_matrix n p)) (multiple cyclotomics y (pauli_matrix n q))
   bare x y p q h = cancel_multiple invertible.roots _ _ (alike-sym (stripped x p) ⊙ product-right laws h invertible.inverse ⊙ stripped y q)
 
+  -- one Pauli as a sum over all
   single : (x : Zω) (p : ℕ) → p < 4 ^ n → Alike cyclotomics (2 ^ n) (combination cyclotomics (4 ^ n) (λ k. times x (identity cyclotomics k p)) (pauli_matrix n)) (multiple cyclotomics x (pauli_matrix n p))
   single x p l = combination-multiple laws (4 ^ n) x _ _ ⊙ multiple-cong laws x (combination-identity laws (4 ^ n) p _ l)
 
@@ -87,6 +98,7 @@ module _ (n : ℕ) (u : Table) (invertible : IsInvertible n u) where
       sym (times-one x) ∙ ap (times x) (sym (identity_same laws p p refl))
       ∙ equal_weights n (λ k. times x (identity cyclotomics k p)) (λ k. times y (identity cyclotomics k q)) (single x p lp ⊙ h ⊙ alike-sym (single y q lq)) p lp
 
+  -- so the Paulis and the powers of i are equal
   same_powers : (m k p q : ℕ) → p < 4 ^ n → q < 4 ^ n → Alike cyclotomics (2 ^ n) (multiple cyclotomics (i_to m) (pauli_matrix n p)) (multiple cyclotomics (i_to k) (pauli_matrix n q))
       → (p ≡ q) × (m % 4 ≡ k % 4)
   same_powers m k p q lp lq h = elim (cases_eq p q) [
@@ -119,6 +131,7 @@ module _ (n : ℕ) (u : Table) (invertible : IsInvertible n u) where
         product-left laws u (paulis_multiply n p q) ⊙ product-multiple laws _ u _ ⊙ multiple-cong laws _ hw.is ⊙ multiple-multiple laws _ _ _
         ⊙ multiple-factor laws (ap (times (i_to (turns n p q))) (sym (imaginary-sign w.is_negative)) ∙ sym (power-add laws imaginary (turns n p q) (sign_turns w.is_negative))) _
 
+    -- the two ways to write U·P·Q agree
     pub multiplies : Multiplies n p q s t w
     multiplies =
         let same = same_powers _ _ w.code (product_code s.code t.code) hw.below lx (bare _ _ w.code (product_code s.code t.code) (alike-sym once ⊙ twice)) in

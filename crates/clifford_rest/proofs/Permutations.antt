@@ -18,30 +18,37 @@ place_is (suc size) f place l here others = elim (cases_eq size place) [
   | inr d ↦ cond-true (is_zero (f size).a) (place_of size f) size (others size (omega arith) d) ∙ place_is size f place (omega arith) here (λ k h. others k (omega arith))
 ]
 
+-- 1 is not 0
 one_is : is_zero one_surd.a ≡ false
 unfolding surd_integer
 one_is = refl
 
+-- nor is −1
 minus_one_is : is_zero (surd_negative one_surd).a ≡ false
 unfolding surd_integer surd_negative
 minus_one_is = refl
 
+-- 0 is
 zero_is : is_zero zero_surd.a ≡ true
 unfolding surd_integer
 zero_is = refl
 
+-- 1 is not below 0
 one_sign : is_below_zero one_surd.a ≡ false
 unfolding surd_integer
 one_sign = refl
 
+-- −1 is
 minus_one_sign : is_below_zero (surd_negative one_surd).a ≡ true
 unfolding surd_integer surd_negative
 minus_one_sign = refl
 
+-- a unit is not 0
 unit_nonzero : (x : Surd) → IsUnit x → is_zero x.a ≡ false
 unit_nonzero x (inl e) = ap (λ (y : Surd). is_zero y.a) e ∙ one_is
 unit_nonzero x (inr e) = ap (λ (y : Surd). is_zero y.a) e ∙ minus_one_is
 
+-- a unit is 1 with its sign
 unit_signed : (x : Surd) → IsUnit x → x ≡ signed (is_below_zero x.a) one_surd
 unfolding signed
 unit_signed x (inl e) = e ∙ sym (ap (λ (b : Bool). signed b one_surd) (ap (λ (y : Surd). is_below_zero y.a) e ∙ one_sign))
@@ -53,6 +60,7 @@ unfolding signed surd_integer surd_negative
 sign_of true = refl
 sign_of false = refl
 
+-- 1 with a sign is not 0
 signed_nonzero : (b : Bool) → is_zero (signed b one_surd).a ≡ false
 unfolding signed surd_integer surd_negative
 signed_nonzero true = refl
@@ -66,12 +74,15 @@ module _ (c : ChannelGrid) (permutation : IsSignedPermutation c) (q : ℕ) (l : 
   abbrev n : ℕ
   n = c.qubits
 
+  -- the column of the code
   abbrev column : ℕ → Surd
   column row = table_of c row q
 
+  -- its one unit
   unit : HasOneUnit (4 ^ n) column
   unit = permutation.columns q l
 
+  -- which is found
   place : place_of (4 ^ n) column ≡ unit.place
   place = place_of_unit (4 ^ n) column unit
 

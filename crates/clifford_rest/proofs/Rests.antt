@@ -40,17 +40,20 @@ pub record Stands (n : ℕ) (c : ScaledTable) : Type 0 where
   pub channel : IsChannel n matrix c
 
 module _ (n : ℕ) (some : 0 < n) (few : n ≤ 3) where
+  -- a gate's table is that of the gate
   gate_stands : (g : ChannelGate) → Fits n g → Stands n (record { table = step_table n (by_gate g); exponent = 0 })
   gate_stands (H q) fits = record { matrix = gate_table (as_gate (H q)); invertible = invertible_gate n some few (H q) fits; channel = step_channel n some few (as_gate (H q)) fits }
   gate_stands (S q) fits = record { matrix = gate_table (as_gate (S q)); invertible = invertible_gate n some few (S q) fits; channel = step_channel n some few (as_gate (S q)) fits }
   gate_stands (Sdg q) fits = record { matrix = gate_table (as_gate (Sdg q)); invertible = invertible_gate n some few (Sdg q) fits; channel = step_channel n some few (as_gate (Sdg q)) fits }
   gate_stands (Cx c t) fits = record { matrix = gate_table (as_gate (Cx c t)); invertible = invertible_gate n some few (Cx c t) fits; channel = step_channel n some few (as_gate (Cx c t)) fits }
 
+  -- a rotation's table is that of twice the rotation
   step_stands : (s : Step) → IsStep n s → Stands n (record { table = step_table n s; exponent = step_exponent s })
   step_stands (by_gate g) fits = gate_stands g fits
   step_stands (by_rotation p) fits = record { matrix = turned_axis n false p; invertible = invertible_rotation n false p; channel = rotation_channel n false p fits.0 }
   step_stands (by_inverse_rotation p) fits = record { matrix = turned_axis n true p; invertible = invertible_rotation n true p; channel = rotation_channel n true p fits.0 }
 
+  -- steps behind a table
   steps_stand : (steps : List Step) → AllByRecursion (IsStep n) steps → (c : ScaledTable) → Stands n c → Stands n (built_on n c steps)
   steps_stand [] fits c h = h
   steps_stand (s ∷ steps) fits c h =
@@ -61,6 +64,7 @@ module _ (n : ℕ) (some : 0 < n) (few : n ≤ 3) where
         channel = channel_product n g.matrix h.matrix _ c g.channel h.channel;
       })
 
+  -- steps by themselves
   built_stands : (steps : List Step) → AllByRecursion (IsStep n) steps → Stands n (built n steps)
   built_stands steps fits = steps_stand steps fits (built n []) (record { matrix = identity cyclotomics; invertible = invertible_identity n; channel = circuit_channel n some few [] tt })
 
@@ -70,16 +74,19 @@ module _ (n : ℕ) (some : 0 < n) (few : n ≤ 3) where
       let g = built_stands h.0 h.1 in
       record { matrix = g.matrix; invertible = g.invertible; channel = same_table_channel n g.matrix (built n h.0) c h.2 g.channel }
 
--- at most 45 gates in all
+-- at most 45 gates in all: 11 on one qubit
 most_1 : most_below 1 1 ≤ 45
 most_1 = omega arith
 
+-- 11 and 15 on two qubits
 most_2 : most_below 2 2 ≤ 45
 most_2 = omega arith
 
+-- 11, 15 and 19 on three
 most_3 : most_below 3 3 ≤ 45
 most_3 = omega arith
 
+-- on any of these
 most_all : (n : ℕ) → 0 < n → n ≤ 3 → most_below n n ≤ 45
 most_all n some few = sizes (λ n. most_below n n ≤ 45) most_1 most_2 most_3 n some few
 
@@ -88,33 +95,41 @@ module _ (c : ChannelGrid) (some : 0 < c.qubits) (few : c.qubits ≤ 3) (permuta
   abbrev n : ℕ
   n = c.qubits
 
+  -- what the channel makes of a code
   abbrev made : ℕ → Signed
   made = sent_to n (table_of c)
 
+  -- what the sweep undoes
   abbrev gates : List ChannelGate
   gates = undo_gates c
 
+  -- and what undoes that
   abbrev rest : List ChannelGate
   rest = undone gates
 
+  -- the matrix of the channel
   stands : Stands n (scaled c)
   stands = channel_stands n some few (scaled c) channel
 
   abbrev matrix : ScaledMatrix
   matrix = record { table = stands.matrix; exponent = 0 }
 
+  -- which conjugates each Pauli to its image
   takes : TakesPaulis n matrix made
   takes = record {
     invertible = stands.invertible;
     acts = λ p l. acts_from_channel n stands.matrix (scaled c) stands.channel permutation.exponent p l (made p) (sent_entry c permutation p l);
   }
 
+  -- the sweep of all qubits
   whole : Swept n some few matrix made takes n
   whole = swept n some few matrix made takes n (omega arith)
 
+  -- the gates fit
   pub undo_fits : AllByRecursion (Fits n) gates
   undo_fits = whole.fits
 
+  -- there are at most 45
   pub undo_short : length gates ≤ 45
   undo_short = let l = most_all n some few in omega (arith, whole.short, l)
 
@@ -131,12 +146,15 @@ module _ (c : ChannelGrid) (some : 0 < c.qubits) (few : c.qubits ≤ 3) (permuta
   rest_fits : AllByRecursion (Fits n) rest
   rest_fits = undone_fits n gates undo_fits
 
+  -- the rest makes of each Pauli what the channel does
   rest_makes : (p : ℕ) → p < 4 ^ n → conjugated_by n rest (positive p) ≡ made p
   rest_makes p l = ap (conjugated_by n rest) (sym (undo_ends p l)) ∙ conjugated_by-undone n some few gates undo_fits (made p) (sent_entry c permutation p l).below
 
+  -- it is a circuit
   pub rest_circuit : IsCircuit n (rest_of c)
   rest_circuit = clifford_circuit n rest rest_fits
 
+  -- without T gates
   pub rest_count : t_count_of (rest_of c) ≡ 0
   rest_count = clifford_count rest
 
@@ -147,25 +165,31 @@ module _ (c : ChannelGrid) (some : 0 < c.qubits) (few : c.qubits ≤ 3) (permuta
   inverse_kind (Sdg q) h = tt
   inverse_kind (Cx c t) h = tt
 
+  -- the same of all gates
   inverse_kinds : (gates : List ChannelGate) → AllByRecursion IsUndoGate gates → AllByRecursion IsRestGate (as_gates (undone gates))
   inverse_kinds [] h = tt
   inverse_kinds (g ∷ gates) h =
       subst (AllByRecursion IsRestGate) (sym (as_gates-append (undone gates) (inverse_gate g ∷ []))) (all-append IsRestGate (as_gates (undone gates)) (as_gate (inverse_gate g) ∷ []) (inverse_kinds gates h.1) (inverse_kind g h.0, tt))
 
+  -- so of the rest
   pub rest_kinds : AllByRecursion IsRestGate (rest_of c)
   rest_kinds = inverse_kinds gates whole.kinds
 
+  -- as many gates of a circuit as Clifford gates
   length-as_gates : (gates : List ChannelGate) → length (as_gates gates) ≡ length gates
   length-as_gates [] = refl
   length-as_gates (g ∷ gates) = ap suc (length-as_gates gates)
 
+  -- it has at most 45 gates
   pub rest_short : length (rest_of c) ≤ 45
   rest_short = omega (arith, length-as_gates rest, length-undone gates, undo_short)
 
+  -- the channel is that of the rest's matrix
   pub rest_channel : IsChannel n (matrix_of n (rest_of c)).table (scaled c)
   rest_channel = channel_from_acts n (matrix_of n (rest_of c)).table (scaled c) permutation.exponent made (λ q l. sent_entry c permutation q l) (λ q l.
       subst (Acts n (matrix_of n (rest_of c)).table q) (rest_makes q l) (acts_circuit n some few rest rest_fits q l))
 
+  -- and the one that its steps build, since a circuit has one channel
   pub rest_built : IsBuiltOf n (steps_of (rest_of c)) (scaled c)
   rest_built = unique n (matrix_of n (rest_of c)).table (matrix_of n (rest_of c)).exponent (scaled c) (built n (steps_of (rest_of c)))
       (unitary_circuit n some few (rest_of c) rest_circuit) rest_channel (circuit_channel n some few (rest_of c) rest_circuit)

@@ -31,9 +31,11 @@ pub record IsClifford (n : ℕ) (gates : List Gate) : Type 0 where
   pub fits : AllByRecursion (Fits n) clifford
   pub is : as_gates clifford ≡ gates
 
+-- one gate more
 more_clifford : (n : ℕ) (g : ChannelGate) (h : Gate) (gates : List Gate) → Fits n g → as_gates (g ∷ []) ≡ h ∷ [] → IsClifford n gates → IsClifford n (h ∷ gates)
 more_clifford n g h gates fits e c = record { clifford = g ∷ c.clifford; fits = (fits, c.fits); is = cc (c.is, e) }
 
+-- gate by gate
 pub clifford_of : (n : ℕ) (gates : List Gate) → IsCircuit n gates → t_count_of gates ≡ 0 → IsClifford n gates
 clifford_of n [] fits none = record { clifford = []; fits = tt; is = refl }
 clifford_of n (H q ∷ gates) fits none = more_clifford n (ChannelGate.H q) (H q) gates fits.0 refl (clifford_of n gates fits.1 (omega (arith, t_count-cons (H q) gates, none)))
@@ -49,25 +51,32 @@ unfolding signed
 unit_of true x e = inr e
 unit_of false x e = inl e
 
+-- the entry of a column is a unit
 at_entry : (n : ℕ) (c : ScaledTable) (q : ℕ) (s : Signed) (h : HasEntry n c q s) (row : ℕ) → row < 4 ^ n → row ≡ s.code → IsUnit (c.table row q)
 at_entry n c q s h row l e = unit_of s.is_negative _ (h.is row l ∙ ap (signed s.is_negative) (one_at row s.code e))
 
+-- and the others are 0
 off_entry : (n : ℕ) (c : ScaledTable) (q : ℕ) (s : Signed) (h : HasEntry n c q s) (row : ℕ) → row < 4 ^ n → row ≢ s.code → c.table row q ≡ zero_surd
 off_entry n c q s h row l d = h.is row l ∙ ap (signed s.is_negative) (zero_at row s.code d) ∙ signed-zero s.is_negative
 
 module _ (n : ℕ) (some : 0 < n) (few : n ≤ 3) (gates : List ChannelGate) (fits : AllByRecursion (Fits n) gates) where
+  -- the table that the gates build
   abbrev m : ScaledTable
   m = built n (steps_of (as_gates gates))
 
+  -- what the gates make of a code
   abbrev made : ℕ → Signed
   made q = conjugated_by n gates (positive q)
 
+  -- and what their inverses do
   abbrev back : ℕ → Signed
   back p = conjugated_by n (undone gates) (positive p)
 
+  -- the columns' entries
   entry : (q : ℕ) → q < 4 ^ n → HasEntry n m q (made q)
   entry q l = entry_built n some few gates fits q l
 
+  -- the inverses keep to codes of n qubits
   back_lt : (p : ℕ) → p < 4 ^ n → (back p).code < 4 ^ n
   back_lt p l = conjugated_by-lt n some few (undone gates) (undone_fits n gates fits) (positive p) l
 
@@ -75,9 +84,11 @@ module _ (n : ℕ) (some : 0 < n) (few : n ≤ 3) (gates : List ChannelGate) (fi
   there : (p : ℕ) → p < 4 ^ n → (made (back p).code).code ≡ p
   there p l = conjugated_code n gates (positive (back p).code) (back p) refl ∙ ap (λ (s : Signed). s.code) (undone-conjugated_by n some few gates fits (positive p) l)
 
+  -- and back and there
   here : (q : ℕ) → q < 4 ^ n → (back (made q).code).code ≡ q
   here q l = conjugated_code n (undone gates) (positive (made q).code) (made q) refl ∙ ap (λ (s : Signed). s.code) (conjugated_by-undone n some few gates fits (positive q) l)
 
+  -- each column has one unit
   pub column_unit : (q : ℕ) → q < 4 ^ n → HasOneUnit (4 ^ n) (λ row. m.table row q)
   column_unit q l = record {
     place = (made q).code;
@@ -86,6 +97,7 @@ module _ (n : ℕ) (some : 0 < n) (few : n ≤ 3) (gates : List ChannelGate) (fi
     others = λ row h d. off_entry n m q (made q) (entry q l) row h d;
   }
 
+  -- each row has one unit
   pub row_unit : (row : ℕ) → row < 4 ^ n → HasOneUnit (4 ^ n) (λ q. m.table row q)
   row_unit row l = record {
     place = (back row).code;
@@ -104,15 +116,19 @@ module _ (c : ChannelGrid) (some : 0 < c.qubits) (few : c.qubits ≤ 3) (gates :
   abbrev n : ℕ
   n = c.qubits
 
+  -- the Clifford gates
   made_of : IsClifford n gates
   made_of = clifford_of n gates circuit none
 
+  -- the table that they build
   abbrev clifford_table : ScaledTable
   clifford_table = built n (steps_of (as_gates made_of.clifford))
 
+  -- which is divided by no root
   no_root : clifford_table.exponent ≡ 0
   no_root = gates_exponent n made_of.clifford (built n [])
 
+  -- no power of √2 changes nothing
   one_times : (k : ℕ) (x : Surd) → k ≡ 0 → surd_times (power surds root2_surd k) x ≡ x
   one_times k x e = ap (λ (j : ℕ). surd_times (power surds root2_surd j) x) e ∙ ap (λ (y : Surd). surd_times y x) (power-zero surds_laws root2_surd) ∙ one-mul surds_laws x
 
@@ -123,6 +139,7 @@ module _ (c : ChannelGrid) (some : 0 < c.qubits) (few : c.qubits ≤ 3) (gates :
       ∙ subst (λ (g : List Gate). surd_times (power surds root2_surd (built n (steps_of g)).exponent) (table_of c row column) ≡ surd_times (power surds root2_surd c.exponent) ((built n (steps_of g)).table row column))
       (sym made_of.is) (same row column lr lc)
 
+  -- with a power of √2 left, no whole part would be odd
   least : IsReduced c → c.exponent ≡ 0
   least (inl e) = e
   least (inr odd) = elim (cases_eq c.exponent 0) [
@@ -132,12 +149,15 @@ module _ (c : ChannelGrid) (some : 0 < c.qubits) (few : c.qubits ≤ 3) (gates :
         absurd (odd_is_no_multiple _ (table_of c odd.row odd.column) odd.odd (odd_none k c.exponent (table_of c odd.row odd.column) (clifford_table.table odd.row odd.column) (omega arith) (cells odd.row odd.column odd.row_below odd.column_below)))
   ]
 
+  -- the exponent is 0
   exponent : c.exponent ≡ 0
   exponent = least reduced
 
+  -- so the cells are those of the table
   equal : (row column : ℕ) → row < 4 ^ n → column < 4 ^ n → table_of c row column ≡ clifford_table.table row column
   equal row column lr lc = cells row column lr lc ∙ one_times c.exponent (clifford_table.table row column) exponent
 
+  -- one unit among the same numbers
   same_unit : (f g : ℕ → Surd) → ((k : ℕ) → k < 4 ^ n → g k ≡ f k) → HasOneUnit (4 ^ n) f → HasOneUnit (4 ^ n) g
   same_unit f g e h = record {
     place = h.place;
@@ -146,6 +166,7 @@ module _ (c : ChannelGrid) (some : 0 < c.qubits) (few : c.qubits ≤ 3) (gates :
     others = λ k l d. e k l ∙ h.others k l d;
   }
 
+  -- the channel is a signed permutation
   pub is_permutation : IsSignedPermutation c
   is_permutation = record {
     exponent = exponent;

@@ -29,6 +29,7 @@ signed-signed false true x = refl
 signed-signed false false x = refl
 
 module _ (n : ℕ) (some : 0 < n) (few : n ≤ 3) where
+  -- a gate moves the entry to the image and multiplies the signs
   entry_gate : (g : ChannelGate) → Fits n g → (c : ScaledTable) (q : ℕ) → q < 4 ^ n → (s : Signed) → HasEntry n c q s → HasEntry n (stepped n (by_gate g) c) q (conjugated n g s)
   unfolding moved
   entry_gate g fits c q l s h = record {
@@ -64,9 +65,11 @@ module _ (n : ℕ) (some : 0 < n) (few : n ≤ 3) where
   unfolding signed
   positive_entry q l = record { below = l; is = λ row h. refl }
 
+  -- gates by themselves
   pub entry_built : (gates : List ChannelGate) → AllByRecursion (Fits n) gates → (q : ℕ) → q < 4 ^ n → HasEntry n (built n (steps_of (as_gates gates))) q (conjugated_by n gates (positive q))
   entry_built gates fits q l = entry_gates gates fits (built n []) q l (positive q) (positive_entry q l)
 
+-- nothing more
 zero_more : (c : ScaledTable) → 0 + c.exponent ≡ c.exponent
 zero_more c = omega arith
 

@@ -29,22 +29,27 @@ same_bool true false f g = sym (f refl)
 same_bool false true f g = g refl
 same_bool false false f g = refl
 
+-- two tests that hold
 both_hold : (a b : Bool) → Holds a → Holds b → Holds (a && b)
 both_hold true b h g = g
 both_hold false b h g = absurd h
 
+-- a test that is true holds
 from_true : (a : Bool) → a ≡ true → Holds a
 from_true true e = tt
 from_true false e = absurd cc
 
+-- a test that holds is true
 to_true : (a : Bool) → Holds a → a ≡ true
 to_true true h = refl
 to_true false h = absurd h
 
+-- a test whose opposite holds is false
 to_false : (a : Bool) → Holds (not a) → a ≡ false
 to_false true h = absurd h
 to_false false h = refl
 
+-- a test of all numbers below n, from each
 all_from : (n : ℕ) (f : ℕ → Bool) → ((k : ℕ) → k < n → Holds (f k)) → Holds (all n f)
 all_from zero f h = tt
 all_from (suc n) f h = both_hold (f n) (all n f) (h n (omega arith)) (all_from n f (λ k l. h k (omega arith)))
@@ -53,21 +58,26 @@ all_from (suc n) f h = both_hold (f n) (all n f) (h n (omega arith)) (all_from n
 abbrev apart_below : ℕ → ℕ → ℕ → Bool
 apart_below n q j = commute n (4 ^ q) (4 ^ j) && (commute n (4 ^ q) (3 * 4 ^ j) && (commute n (3 * 4 ^ q) (4 ^ j) && commute n (3 * 4 ^ q) (3 * 4 ^ j)))
 
+-- the same on one qubit, with both codes on n qubits
 abbrev generators_at : ℕ → ℕ → Bool
 generators_at n q = not (commute n (4 ^ q) (3 * 4 ^ q)) && (ltb (4 ^ q) (4 ^ n) && (ltb (3 * 4 ^ q) (4 ^ n) && all q (apart_below n q)))
 
+-- on one qubit
 generators_1 : Holds (all 1 (generators_at 1))
 unfolding clashes commute
 generators_1 = tt
 
+-- on two qubits
 generators_2 : Holds (all 2 (generators_at 2))
 unfolding clashes commute
 generators_2 = tt
 
+-- on three qubits
 generators_3 : Holds (all 3 (generators_at 3))
 unfolding clashes commute
 generators_3 = tt
 
+-- how X and Z on a qubit stand to those on the lower ones
 record Generators (n q : ℕ) : Type 0 where
   pub anticommute : commute n (4 ^ q) (3 * 4 ^ q) ≡ false
   pub x_below : 4 ^ q < 4 ^ n
@@ -78,21 +88,27 @@ record Generators (n q : ℕ) : Type 0 where
   pub z_z : (j : ℕ) → j < q → commute n (3 * 4 ^ q) (3 * 4 ^ j) ≡ true
 
 module _ (n : ℕ) (some : 0 < n) (few : n ≤ 3) (q : ℕ) (l : q < n) where
+  -- the test on the qubit
   test : Holds (generators_at n q)
   test = all_at n (generators_at n) (sizes (λ n. Holds (all n (generators_at n))) generators_1 generators_2 generators_3 n some few) q l
 
+  -- without its first part
   past_first : Holds (ltb (4 ^ q) (4 ^ n) && (ltb (3 * 4 ^ q) (4 ^ n) && all q (apart_below n q)))
   past_first = and_right (not (commute n (4 ^ q) (3 * 4 ^ q))) _ test
 
+  -- and without the second
   past_second : Holds (ltb (3 * 4 ^ q) (4 ^ n) && all q (apart_below n q))
   past_second = and_right (ltb (4 ^ q) (4 ^ n)) _ past_first
 
+  -- the test with a lower qubit
   pairs : (j : ℕ) → j < q → Holds (apart_below n q j)
   pairs j h = all_at q (apart_below n q) (and_right (ltb (3 * 4 ^ q) (4 ^ n)) _ past_second) j h
 
+  -- its half on Z
   later_pairs : (j : ℕ) → j < q → Holds (commute n (3 * 4 ^ q) (4 ^ j) && commute n (3 * 4 ^ q) (3 * 4 ^ j))
   later_pairs j h = and_right (commute n (4 ^ q) (3 * 4 ^ j)) _ (and_right (commute n (4 ^ q) (4 ^ j)) _ (pairs j h))
 
+  -- what the test says
   generators : Generators n q
   generators = record {
     anticommute = to_false _ (and_left (not (commute n (4 ^ q) (3 * 4 ^ q))) _ test);
@@ -111,6 +127,7 @@ pub record TakesPaulis (n : ℕ) (m : ScaledMatrix) (made : ℕ → Signed) : Ty
   pub acts : (p : ℕ) → p < 4 ^ n → Acts n m.table p (made p)
 
 module _ (n : ℕ) (m : ScaledMatrix) (made : ℕ → Signed) (h : TakesPaulis n m made) where
+  -- images multiply as the Paulis do
   pub products : (p q : ℕ) → p < 4 ^ n → q < 4 ^ n → Multiplies n p q (made p) (made q) (made (product_code p q))
   products p q lp lq =
       multiplies n m.table h.invertible p q (made p) (made q) (made (product_code p q)) (h.acts p lp) (h.acts q lq) (h.acts (product_code p q) (product_code-lt n p q lp lq))
@@ -147,35 +164,44 @@ module _ (n : ℕ) (some : 0 < n) (few : n ≤ 3) (m : ScaledMatrix) (made : ℕ
     pub x : (j : ℕ) → j < q → conjugated_by n (undo_list n made q) (made (4 ^ j)) ≡ positive (4 ^ j)
     pub z : (j : ℕ) → j < q → conjugated_by n (undo_list n made q) (made (3 * 4 ^ j)) ≡ positive (3 * 4 ^ j)
 
+  -- gates behind the matrix
   pub taken : (gates : List ChannelGate) → AllByRecursion (Fits n) gates → TakesPaulis n (after n m (as_gates gates)) (λ p. conjugated_by n gates (made p))
   taken gates fits = record {
     invertible = invertible_after n some few gates fits m h.invertible;
     acts = λ p l. acts_after n some few gates fits m p (made p) (h.acts p l);
   }
 
+  -- no qubit yet
   swept_none : Swept 0
   unfolding undo_list
   swept_none = record { fits = tt; kinds = tt; short = omega arith; x = λ j l. absurd (omega arith); z = λ j l. absurd (omega arith) }
 
   module _ (q : ℕ) (lq : q < n) (s : Swept q) where
+    -- what the matrix with the gates behind it makes of a code
     abbrev now : ℕ → Signed
     now p = conjugated_by n (undo_list n made q) (made p)
 
+    -- the gates of this qubit
     abbrev gates : List ChannelGate
     gates = qubit_gates n q (now (4 ^ q)) (now (3 * 4 ^ q))
 
+    -- it conjugates Paulis to Paulis
     takes : TakesPaulis n (after n m (as_gates (undo_list n made q))) now
     takes = taken (undo_list n made q) s.fits
 
+    -- so it keeps which ones commute
     kept : (p r : ℕ) → p < 4 ^ n → r < 4 ^ n → commute n (now p).code (now r).code ≡ commute n p r
     kept p r lp lr = commutes_kept n (after n m (as_gates (undo_list n made q))) now takes p r lp lr
 
+    -- X and Z on this qubit
     here : Generators n q
     here = generators n some few q lq
 
+    -- X on a lower qubit is a code
     x_lt : (j : ℕ) → j < q → 4 ^ j < 4 ^ n
     x_lt j l = (generators n some few j (omega arith)).x_below
 
+    -- and so is Z
     z_lt : (j : ℕ) → j < q → 3 * 4 ^ j < 4 ^ n
     z_lt j l = (generators n some few j (omega arith)).z_below
 
@@ -186,15 +212,18 @@ module _ (n : ℕ) (some : 0 < n) (few : n ≤ 3) (m : ScaledMatrix) (made : ℕ
         (from_true _ (ap (λ (s : Signed). commute n (now p).code s.code) (sym (s.x j l)) ∙ kept p (4 ^ j) lp (x_lt j l) ∙ fx j l))
         (from_true _ (ap (λ (s : Signed). commute n (now p).code s.code) (sym (s.z j l)) ∙ kept p (3 * 4 ^ j) lp (z_lt j l) ∙ fz j l)))
 
+    -- where the sweep of this qubit ends
     end : Ended n q (now (4 ^ q)) (now (3 * 4 ^ q))
     end = ended n q (now (4 ^ q)) (now (3 * 4 ^ q)) (qubit_ends n q (now (4 ^ q)) (now (3 * 4 ^ q)) some few lq
         (takes.acts (4 ^ q) here.x_below).below (takes.acts (3 * 4 ^ q) here.z_below).below
         (free (4 ^ q) here.x_below here.x_x here.x_z) (free (3 * 4 ^ q) here.z_below here.z_x here.z_z)
         (kept (4 ^ q) (3 * 4 ^ q) here.x_below here.z_below ∙ here.anticommute))
 
+    -- its gates behind the others
     later : (p : ℕ) → conjugated_by n (undo_list n made q ++ gates) (made p) ≡ conjugated_by n gates (now p)
     later p = conjugated_by-append n (undo_list n made q) gates (made p)
 
+    -- one qubit more
     swept_more : Swept (suc q)
     unfolding undo_list
     swept_more = record {
@@ -211,6 +240,7 @@ module _ (n : ℕ) (some : 0 < n) (few : n ≤ 3) (m : ScaledMatrix) (made : ℕ
       ];
     }
 
+  -- all qubits
   pub swept : (q : ℕ) → q ≤ n → Swept q
   swept zero l = swept_none
   swept (suc q) l = swept_more q (omega arith) (swept q (omega arith))
