@@ -3,3 +3,4 @@ pub mod Tables
 pub mod Rows
 pub mod Cells
 pub mod Changes
+pub mod Words

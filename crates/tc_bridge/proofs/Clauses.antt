@@ -3,7 +3,7 @@ use Rattle.std.proofs.Common.{◌≡◌, ℕ, ◌<◌, ◌≤◌, ◌++◌, List
 use Rattle.tc_circuit.specs.Gate as circuit
 use Rattle.tc_circuit.specs.Model.{matrix_of, IsCircuit, t_count_of}
 use Rattle.tc_circuit.specs.declared.circuit.Gate.{Gate}
-use Rattle.tc_bridge.specs.Rotation.{IsWord}
+use Rattle.channel_rep.specs.Words.{IsWord}
 use Rattle.tc_bridge.specs.Block.{as_gates, word_gates}
 use Rattle.tc_bridge.specs.Laws.{IsWordThenClifford, IsCircuitOfWord}
 use Rattle.tc_bridge.proofs.ScaledMatrices.{◌⊚◌, mul-right, equal_entries, near_entries}

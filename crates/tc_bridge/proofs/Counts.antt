@@ -9,7 +9,7 @@ use Rattle.tc_circuit.specs.declared.circuit.Gate.{Gate}
 use Rattle.channel_rep.specs.declared.gate.ChannelGate.{ChannelGate}
 use Rattle.channel_rep.specs.declared.gate.ChannelGate.TheVariants.{H, S, Sdg, Cx}
 use Rattle.channel_rep.specs.Gates.{Fits}
-use Rattle.tc_bridge.specs.Rotation.{IsWord}
+use Rattle.channel_rep.specs.Words.{IsWord}
 use Rattle.tc_bridge.specs.Block.{as_gate, as_gates, undone, opening, highest, block, word_gates}
 use Rattle.tc_bridge.proofs.Conjugations.{gate_fits, all-append, undone_fits}
 use Rattle.tc_bridge.proofs.Blocks.{opening_is}

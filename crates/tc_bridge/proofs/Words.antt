@@ -18,7 +18,8 @@ use Rattle.channel_rep.specs.declared.gate.ChannelGate.TheVariants.{H, S, Sdg, C
 use Rattle.channel_rep.specs.Gates.{Fits, image}
 use Rattle.pauli_basis.specs.Products.{turns}
 use Rattle.pauli_basis.proofs.Small.{all, all_at}
-use Rattle.tc_bridge.specs.Rotation.{rotation, scaled_product, IsWord, word_matrix}
+use Rattle.channel_rep.specs.Words.{IsWord}
+use Rattle.tc_bridge.specs.Rotation.{rotation, scaled_product, word_matrix}
 use Rattle.tc_bridge.specs.Steps.{z_on}
 use Rattle.tc_bridge.specs.Block.{as_gate, as_gates, block, word_gates}
 use Rattle.tc_bridge.proofs.AllGates.{or_right}

@@ -9,10 +9,11 @@ use Rattle.tc_circuit.specs.Model.{matrix_of, IsCircuit, SameUpTo, Same, t_count
 use Rattle.tc_circuit.specs.declared.circuit.Gate.{Gate}
 use Rattle.pauli_basis.specs.Products.{product_code, turns, commute, anti_sign}
 use Rattle.channel_rep.specs.Tables.{ScaledTable, SameTable, built}
+use Rattle.channel_rep.specs.Words.{IsWord}
 use Rattle.tc_bridge.specs.Pauli.{imaginary, pauli_matrix, sign}
 use Rattle.tc_bridge.specs.Channel.{IsChannel}
 use Rattle.tc_bridge.specs.Steps.{steps_of}
-use Rattle.tc_bridge.specs.Rotation.{IsWord, word_matrix, scaled_product, AreEqual}
+use Rattle.tc_bridge.specs.Rotation.{word_matrix, scaled_product, AreEqual}
 
 -- ---- Pauli operators: the rules of `pauli_basis` on codes are those of the matrices
 -- P·Q = i^t·R

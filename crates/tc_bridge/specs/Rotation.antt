@@ -1,7 +1,6 @@
 -- The rotations by Pauli operators, and words of them.
 -- Source: Gosset, Kliuchnikov, Mosca and Russo, An algorithm for the T-count, 2014, section 2.2.
-use Rattle.std.specs.Prelude.{◌≡◌, ◌≢◌, ℕ, ◌+◌, ◌^◌, ◌<◌, List, [], ◌∷◌}
-use Rattle.std.specs.List.{AllByRecursion}
+use Rattle.std.specs.Prelude.{◌≡◌, ℕ, ◌+◌, ◌^◌, ◌<◌, List, [], ◌∷◌}
 use Rattle.ring_laws.specs.Ring.{power}
 use Rattle.ring_laws.specs.Matrix.{product, identity}
 use Rattle.ring_laws.specs.Cyclotomic.{Zω, cyclotomics, plus, times, negative, ω, root2, one_number}
@@ -28,10 +27,6 @@ AreEqual size a b = (row column : ℕ) → row < size → column < size →
     times (power cyclotomics root2 b.exponent) (a.table row column) ≡ times (power cyclotomics root2 a.exponent) (b.table row column)
 
 -- ---- words
--- a word: Paulis on n qubits other than the identity
-abbrev pub IsWord : ℕ → List ℕ → Type 0
-IsWord n word = AllByRecursion (λ p. (p < 4 ^ n) × (p ≢ 0)) word
-
 -- R(P1)·R(P2)· .. ·R(Pt); the identity for the empty word
 abbrev pub word_matrix : ℕ → List ℕ → ScaledMatrix
 word_matrix n [] = record { table = identity cyclotomics; exponent = 0 }

@@ -1,0 +1,41 @@
+-- What the laws of this crate say.
+use Rattle.std.specs.Prelude.{◌≡◌, ◌↔◌, ℕ, ◌<◌, ◌≤◌, List}
+use Rattle.channel_rep.specs.Tables.{ScaledTable, IsCircuitChannel}
+use Rattle.channel_rep.specs.Words.{IsWord}
+use Rattle.coset_label.specs.Cosets.{SameCoset, SameCosetWords, DiffersByPermutation}
+use Rattle.coset_label.specs.Labels.{Label, IsLabelOf, IsLabelOfWord}
+use Rattle.coset_label.specs.Tags.{tag_of}
+
+-- the labels of two circuits' channels are equal exactly where the channels lie in one coset
+abbrev pub LabelsTellCosets : Type 0
+LabelsTellCosets = (n : ℕ) → 0 < n → n ≤ 3 → (a b : ScaledTable) → IsCircuitChannel n a → IsCircuitChannel n b → (label other : Label)
+    → IsLabelOf n a label → IsLabelOf n b other → (label ≡ other) ↔ SameCoset n a b
+
+-- two circuits' channels M and M' lie in one coset exactly where M = M'·Π for a signed permutation Π
+abbrev pub CosetsDifferByPermutations : Type 0
+CosetsDifferByPermutations = (n : ℕ) → 0 < n → n ≤ 3 → (a b : ScaledTable) → IsCircuitChannel n a → IsCircuitChannel n b
+    → SameCoset n a b ↔ DiffersByPermutation n a b
+
+-- to lie in one coset is an equivalence on words
+pub record IsCosetEquivalence (n : ℕ) : Type 0 where
+  pub reflexive : (u : List ℕ) → IsWord n u → SameCosetWords n u u
+  pub symmetric : (u v : List ℕ) → IsWord n u → IsWord n v → SameCosetWords n u v → SameCosetWords n v u
+  pub transitive : (u v w : List ℕ) → IsWord n u → IsWord n v → IsWord n w → SameCosetWords n u v → SameCosetWords n v w → SameCosetWords n u w
+
+abbrev pub CosetsAreClasses : Type 0
+CosetsAreClasses = (n : ℕ) → 0 < n → n ≤ 3 → IsCosetEquivalence n
+
+-- words of one coset have one tag
+abbrev pub CosetsHaveOneTag : Type 0
+CosetsHaveOneTag = (n : ℕ) → 0 < n → n ≤ 3 → (v w : List ℕ) → IsWord n v → IsWord n w → SameCosetWords n v w → (label other : Label)
+    → IsLabelOfWord n v label → IsLabelOfWord n w other → tag_of label ≡ tag_of other
+
+-- words of equal labels lie in one coset
+abbrev pub EqualLabelsMeanOneCoset : Type 0
+EqualLabelsMeanOneCoset = (n : ℕ) → 0 < n → n ≤ 3 → (v w : List ℕ) → IsWord n v → IsWord n w → (label : Label)
+    → IsLabelOfWord n v label → IsLabelOfWord n w label → SameCosetWords n v w
+
+-- a word has one label
+abbrev pub WordsHaveOneLabel : Type 0
+WordsHaveOneLabel = (n : ℕ) → 0 < n → n ≤ 3 → (word : List ℕ) → IsWord n word → (label other : Label)
+    → IsLabelOfWord n word label → IsLabelOfWord n word other → label ≡ other

@@ -1,0 +1,5 @@
+pub mod Words
+pub mod Cosets
+pub mod Labels
+pub mod Tags
+pub mod Laws

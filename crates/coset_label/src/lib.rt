@@ -1,0 +1,4 @@
+//! Words of rotations, and labels of cosets of the Clifford group.
+#![tactic(auto)]
+
+pub mod laws;
