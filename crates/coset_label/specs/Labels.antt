@@ -2,7 +2,7 @@
 -- sign that makes its first number other than 0 positive, in lexicographic order. Rule and order are this program's own.
 use Rattle.std.specs.Prelude.{◌≡◌, ℕ, zero, suc, ◌+◌, ◌^◌, ◌<◌, ◌⊎◌, ℤ, pos, negsuc, neg_ℤ, Bool, true, false, if◌then◌else◌, List, [], ◌∷◌, map, IsPermutation, IsSorted}
 use Rattle.std.specs.List.{range_with_len}
-use Rattle.std.specs.Cmp.{int_cmp}
+use Rattle.std.specs.Ordering.{int_cmp}
 use Rattle.std.specs.Cmp.Lexicographic.{slice_cmp}
 use Rattle.tc_ring.specs.Surds.{Surd, IsOdd}
 use Rattle.channel_rep.specs.Tables.{SurdTable, ScaledTable, IsBuiltOf}
