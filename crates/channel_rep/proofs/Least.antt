@@ -2,9 +2,9 @@
 use Rattle.std.proofs.Common.{◌≡◌, ℕ, suc, ◌+◌, ◌-◌, ◌^◌, ◌<◌, ◌≤◌, ap, sym, ◌∙◌, inl, inr, arith}
 use Rattle.std.proofs.lemmas.Bool.{cases_lt}
 use Rattle.ring_laws.specs.Ring.{power}
-use Rattle.tc_ring.specs.Surds.{Surd, surd_times, root2_surd}
+use Rattle.tc_ring.specs.Surds.{Surd, surd_times, root2_surd, IsOdd}
 use Rattle.tc_ring.proofs.Surds.{surd_times_assoc, odd_is_no_multiple, cancel_root2_power}
-use Rattle.channel_rep.specs.Cells.{ChannelGrid, HasOddCell, IsReduced, table_of, scaled}
+use Rattle.channel_rep.specs.Cells.{ChannelGrid, IsReduced, table_of, scaled}
 use Rattle.channel_rep.specs.Tables.{ScaledTable, SameTable}
 use Rattle.channel_rep.proofs.Built.{root2_to, root2_to-add}
 
@@ -19,17 +19,19 @@ lowered j k x y l h =
     let e : j + suc (k - suc j) ≡ k = omega arith in
     cancel_root2_power j _ _ (sym (root2_to-add j (suc (k - suc j)) x) ∙ ap (λ i. surd_times (root2_to i) x) e ∙ h)
 
--- no table that is the same has a smaller exponent
-pub least_of_reduced : (g : ChannelGrid) → IsReduced g → (m : ScaledTable) → SameTable g.qubits m (scaled g) → g.exponent ≤ m.exponent
-least_of_reduced g reduced m same = elim (cases_lt m.exponent g.exponent) [
-  | inl l ↦ elim reduced [ inl none ↦ omega arith | inr odd ↦ absurd (never l odd) ]
+-- a number with an odd whole part is written with the least exponent
+pub odd_has_least : (j k : ℕ) (x y : Surd) → IsOdd y.a → surd_times (root2_to k) x ≡ surd_times (root2_to j) y → k ≤ j
+odd_has_least j k x y odd h = elim (cases_lt j k) [
+  | inl l ↦ absurd (odd_is_no_multiple _ y odd (multiple (k - suc j) x y (lowered j k x y l h)))
   | inr l ↦ l
 ]
-  where
-    never : m.exponent < g.exponent → HasOddCell g → ⊥
-    never l odd =
-        odd_is_no_multiple _ (table_of g odd.row odd.column) odd.odd
-        (multiple (g.exponent - suc m.exponent) (m.table odd.row odd.column) _ (lowered m.exponent g.exponent _ _ l (same odd.row odd.column odd.row_below odd.column_below)))
+
+-- no table that is the same has a smaller exponent
+pub least_of_reduced : (g : ChannelGrid) → IsReduced g → (m : ScaledTable) → SameTable g.qubits m (scaled g) → g.exponent ≤ m.exponent
+least_of_reduced g reduced m same = elim reduced [
+  | inl none ↦ omega arith
+  | inr odd ↦ odd_has_least m.exponent g.exponent _ _ odd.odd (same odd.row odd.column odd.row_below odd.column_below)
+]
 
 -- reduced tables that are the same have one exponent and the same cells
 pub record SameCells (n : ℕ) (a b : ChannelGrid) : Type 0 where

@@ -1,9 +1,9 @@
 -- Numbers with a sign.
 use Rattle.std.proofs.Common.{◌≡◌, ℕ, Bool, true, false, not, refl, ap, sym, ◌∙◌}
-use Rattle.ring_laws.proofs.Ring.{one-mul, neg-mul}
-use Rattle.tc_ring.specs.Surds.{Surd, surd_integer, surd_times, surd_negative, zero_surd, one_surd, SurdWithin}
-use Rattle.tc_ring.proofs.Surds.{surds_laws, surd_within_negative}
-use Rattle.channel_rep.specs.Tables.{signed}
+use Rattle.ring_laws.proofs.Ring.{one-mul, neg-mul, mul-neg, neg-neg}
+use Rattle.tc_ring.specs.Surds.{Surd, surd_integer, surd_plus, surd_times, surd_negative, zero_surd, one_surd, SurdWithin}
+use Rattle.tc_ring.proofs.Surds.{surds_laws, surd_plus_comm, surd_plus-negative, surd_within_negative}
+use Rattle.channel_rep.specs.Tables.{signed, turned_over}
 
 -- with the sign
 pub signed-true : (b : Bool) (x : Surd) → b ≡ true → surd_negative x ≡ signed b x
@@ -46,3 +46,38 @@ pub signed_within : (a : ℕ) (b : Bool) (x : Surd) → SurdWithin a x → SurdW
 unfolding signed
 signed_within a true x h = surd_within_negative a x h
 signed_within a false x h = h
+
+-- ---- two signs
+-- a sign taken twice
+pub signed-twice : (b : Bool) (x : Surd) → signed b (signed b x) ≡ x
+unfolding signed
+signed-twice true x = neg-neg surds_laws x
+signed-twice false x = refl
+
+-- two signs are one
+pub signed-signed : (b d : Bool) (x : Surd) → signed b (signed d x) ≡ signed (turned_over b d) x
+unfolding signed
+signed-signed true true x = neg-neg surds_laws x
+signed-signed true false x = refl
+signed-signed false d x = refl
+
+-- a factor goes under a sign
+pub times-signed : (b : Bool) (x y : Surd) → surd_times x (signed b y) ≡ signed b (surd_times x y)
+unfolding signed
+times-signed true x y = mul-neg surds_laws x y
+times-signed false x y = refl
+
+-- both signs add up to zero
+pub signed-opposite : (b : Bool) (x : Surd) → surd_plus (signed b x) (signed (not b) x) ≡ zero_surd
+unfolding signed
+signed-opposite true x = surd_plus_comm (surd_negative x) x ∙ surd_plus-negative x
+signed-opposite false x = surd_plus-negative x
+
+-- only zero is zero with a sign
+pub zero_of_signed : (b : Bool) (x : Surd) → signed b x ≡ zero_surd → x ≡ zero_surd
+zero_of_signed b x e = sym (signed-twice b x) ∙ ap (signed b) e ∙ signed-zero b
+
+-- a sign and its inverse
+pub turned_over-not : (inverse b : Bool) → turned_over inverse (not b) ≡ not (turned_over inverse b)
+turned_over-not true b = refl
+turned_over-not false b = refl
