@@ -1,0 +1,7 @@
+pub mod FixedSigns
+pub mod ColumnLists
+pub mod RisingLists
+pub mod OneCoset
+pub mod OneLabel
+pub mod Permutations
+pub mod WordChannels
