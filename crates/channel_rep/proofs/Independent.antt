@@ -36,18 +36,8 @@ gate_independent n some few g fits x h k l =
 -- the sum and the difference of two numbers are zero only where both are
 both_ways : (b : Bool) (x y : Surd) → surd_plus x (signed b y) ≡ zero_surd → surd_plus y (signed (not b) x) ≡ zero_surd → x ≡ zero_surd
 unfolding signed surd_plus surd_negative surd_integer
-both_ways true x y e d =
-    let ea = ap (λ (s : Surd). s.a) e in
-    let eb = ap (λ (s : Surd). s.b) e in
-    let da = ap (λ (s : Surd). s.a) d in
-    let db = ap (λ (s : Surd). s.b) d in
-    same_surd (omega (arith, ints)) (omega (arith, ints))
-both_ways false x y e d =
-    let ea = ap (λ (s : Surd). s.a) e in
-    let eb = ap (λ (s : Surd). s.b) e in
-    let da = ap (λ (s : Surd). s.a) d in
-    let db = ap (λ (s : Surd). s.b) d in
-    same_surd (omega (arith, ints)) (omega (arith, ints))
+both_ways true x y e d = same_surd (omega (arith, ints, ap (λ (s : Surd). s.a) e, ap (λ (s : Surd). s.a) d)) (omega (arith, ints, ap (λ (s : Surd). s.b) e, ap (λ (s : Surd). s.b) d))
+both_ways false x y e d = same_surd (omega (arith, ints, ap (λ (s : Surd). s.a) e, ap (λ (s : Surd). s.a) d)) (omega (arith, ints, ap (λ (s : Surd). s.b) e, ap (λ (s : Surd). s.b) d))
 
 module _ (n : ℕ) (inverse : Bool) (p : ℕ) where
   -- a row with which the rotation commutes

@@ -1,11 +1,11 @@
 -- The columns of a table as lists of numbers.
 use Rattle.std.proofs.Common.{◌≡◌, ℕ, zero, suc, ◌+◌, ◌^◌, ◌<◌, ◌≤◌, Bool, true, false, ◌∷◌, refl, ap, sym, ◌∙◌, inl, inr, arith}
-use Rattle.std.specs.Prelude.{ℤ, neg_ℤ}
+use Rattle.std.specs.Prelude.{neg_ℤ}
 use Rattle.std.proofs.lemmas.Bool.{cases_eq}
 use Rattle.tc_ring.specs.Surds.{Surd, surd_negative}
 use Rattle.tc_ring.proofs.Surds.{same_surd}
 use Rattle.channel_rep.specs.Tables.{SurdTable, signed, turned_over}
-use Rattle.coset_label.specs.Labels.{Column, numbers_from, column_of, leads_negative, with_fixed_sign}
+use Rattle.coset_label.specs.Labels.{numbers_from, column_of, leads_negative, with_fixed_sign}
 use Rattle.coset_label.proofs.FixedSigns.{turned, with_fixed_sign-turned, same_up_to_sign}
 
 -- a column's numbers change sign with its cells
@@ -21,25 +21,13 @@ numbers_of_cells cell other row zero h = refl
 numbers_of_cells cell other row (suc count) h =
     λ i. (h row (omega arith) i).a ∷ (h row (omega arith) i).b ∷ numbers_of_cells cell other (row + 1) count (λ r l. h r (omega arith)) i
 
--- the heads and the tails of equal lists that begin with two numbers
-pub record SameStart (a b c d : ℤ) (xs ys : Column) : Type 0 where
-  pub first : a ≡ c
-  pub second : b ≡ d
-  pub rest : xs ≡ ys
-
--- taken apart
-start_of : (a b c d : ℤ) (xs ys : Column) → ◌≡◌ {A = Column} (a ∷ b ∷ xs) (c ∷ d ∷ ys) → SameStart a b c d xs ys
-start_of a b c d xs ys e = record { first = cc; second = cc; rest = cc }
-
 -- equal numbers are of equal cells
 cells_of_numbers : (cell other : ℕ → Surd) (row count : ℕ) → numbers_from cell row count ≡ numbers_from other row count → (r : ℕ) → row ≤ r → r < row + count → cell r ≡ other r
 cells_of_numbers cell other row zero e r l h = absurd (omega arith)
-cells_of_numbers cell other row (suc count) e r l h =
-    let start = start_of (cell row).a (cell row).b (other row).a (other row).b _ _ e in
-    elim (cases_eq r row) [
-      | inl here ↦ ap cell here ∙ same_surd start.first start.second ∙ ap other (sym here)
-      | inr there ↦ cells_of_numbers cell other (row + 1) count start.rest r (omega arith) (omega arith)
-    ]
+cells_of_numbers cell other row (suc count) e r l h = elim (cases_eq r row) [
+  | inl here ↦ ap cell here ∙ same_surd (cc) (cc) ∙ ap other (sym here)
+  | inr there ↦ cells_of_numbers cell other (row + 1) count (cc) r (omega arith) (omega arith)
+]
 
 -- two columns of tables agree up to sign
 pub record AgreeUpToSign (n : ℕ) (a : SurdTable) (c : ℕ) (b : SurdTable) (d : ℕ) : Type 0 where
