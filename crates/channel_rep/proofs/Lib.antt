@@ -1,5 +1,7 @@
 pub mod Places
 pub mod Images
+pub mod Bytes
+pub mod Conjugated
 pub mod Signs
 pub mod Rules
 pub mod Sweeps
