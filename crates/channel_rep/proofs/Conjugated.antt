@@ -59,6 +59,7 @@ module _ (n : ℕ) (some : 0 < n) (few : n ≤ 3) (bytes : List ℕ) (own : (p :
     few = few;
     below = λ p l. subst (λ k. k < 4 ^ n) (sym (ap (λ (s : Signed). s.code) (identity_images p l))) l;
     one_to_one = λ p q l h e. sym (ap (λ (s : Signed). s.code) (identity_images p l)) ∙ e ∙ ap (λ (s : Signed). s.code) (identity_images q h);
+    onto = λ q l none. none q l (ap (λ (s : Signed). s.code) (identity_images q l));
   }
 
   pub identity_by : IsConjugationBy [] (map_of n bytes)
@@ -86,6 +87,9 @@ module _ (n : ℕ) (g : ChannelGate) (fits : Fits n g) (old new : List ℕ) (val
           ∙ ap (λ k. (image n g k).code) (sym (behind_code p l) ∙ e ∙ behind_code q h)
           ∙ image-image n valid.some valid.few g fits _ (valid.below q h)
         );
+    onto = λ q l none.
+        valid.onto (image n g q).code (image-lt n valid.some valid.few g fits q l) (λ p h e.
+        none p h (behind_code p h ∙ ap (λ k. (image n g k).code) e ∙ image-image n valid.some valid.few g fits q l));
   }
 
   pub behind_by : (gates : List ChannelGate) → IsConjugationBy gates (map_of n old) → IsConjugationBy (gates ++ (g ∷ [])) (map_of n new)

@@ -7,7 +7,9 @@ pub mod Rules
 pub mod Sweeps
 pub mod Built
 pub mod Squares
+pub mod Moves
 pub mod Grids
+pub mod ConjugatedGrids
 pub mod OneUnit
 pub mod OnePower
 pub mod Least
