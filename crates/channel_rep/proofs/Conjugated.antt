@@ -1,14 +1,14 @@
 -- Codes conjugated by gates one after another.
-use Rattle.std.proofs.Common.{◌≡◌, ℕ, ◌+◌, ◌/◌, ◌%◌, ◌^◌, ◌<◌, ◌≤◌, ◌==◌, Bool, true, false, T, eqb, List, [], ◌∷◌, ◌++◌, refl, ap, sym, ◌∙◌, subst, arith}
+use Rattle.std.proofs.Common.{◌≡◌, ℕ, ◌/◌, ◌%◌, ◌^◌, ◌<◌, ◌≤◌, ◌==◌, List, [], ◌∷◌, ◌++◌, refl, ap, sym, ◌∙◌, subst, arith}
 use Rattle.std.specs.Prelude.{slice_index}
 use Rattle.std.specs.List.{AllByRecursion}
 use Rattle.pauli_basis.specs.Products.{Signed}
 use Rattle.channel_rep.specs.Gates.{Fits, image, positive}
-use Rattle.channel_rep.specs.Tables.{SurdTable, signed, turned_over}
+use Rattle.channel_rep.specs.Tables.{turned_over}
 use Rattle.channel_rep.specs.Conjugations.{conjugated, conjugated_by, pauli_in, PauliMap, image_of, IsPauliMap, IsConjugationBy}
 use Rattle.channel_rep.specs.declared.gate.ChannelGate.{ChannelGate}
 use Rattle.channel_rep.specs.declared.gate.ChannelGate.TheVariants.{H, S, Sdg, Cx}
-use Rattle.channel_rep.proofs.Images.{image-lt, image-image, crossed_code_is, crossed_sign_is, fits_three}
+use Rattle.channel_rep.proofs.Images.{image-lt, image-image, crossed_code_is, crossed_sign_is}
 use Rattle.channel_rep.proofs.Squares.{codes_few}
 
 -- a Pauli and a sign, by parts
@@ -53,6 +53,7 @@ module _ (n : ℕ) (some : 0 < n) (few : n ≤ 3) (bytes : List ℕ) (own : (p :
   pub identity_images : (p : ℕ) → p < 4 ^ n → image_of (map_of n bytes) p ≡ positive p
   identity_images p l = let h : p < 64 = omega (arith, codes_few n few) in ap pauli_in (own p h) ∙ pauli_in-code p h
 
+  -- which is a map of Paulis
   pub identity_map : IsPauliMap (map_of n bytes)
   identity_map = record {
     some = some;
@@ -62,6 +63,7 @@ module _ (n : ℕ) (some : 0 < n) (few : n ≤ 3) (bytes : List ℕ) (own : (p :
     onto = λ q l none. none q l (ap (λ (s : Signed). s.code) (identity_images q l));
   }
 
+  -- and conjugation by no gate
   pub identity_by : IsConjugationBy [] (map_of n bytes)
   identity_by = record { fit = tt; images = identity_images }
 
@@ -73,9 +75,11 @@ module _ (n : ℕ) (g : ChannelGate) (fits : Fits n g) (old new : List ℕ) (val
       behind p (omega (arith, codes_few n valid.few))
       ∙ ap (λ (s : Signed). record { code = s.code; is_negative = turned_over (image_of (map_of n old) p).is_negative s.is_negative }) (image-three n valid.few g fits _ (valid.below p l))
 
+  -- their codes
   behind_code : (p : ℕ) → p < 4 ^ n → (image_of (map_of n new) p).code ≡ (image n g (image_of (map_of n old) p).code).code
   behind_code p l = ap (λ (s : Signed). s.code) (behind_images p l)
 
+  -- it is a map of Paulis
   pub behind_map : IsPauliMap (map_of n new)
   behind_map = record {
     some = valid.some;
@@ -83,15 +87,16 @@ module _ (n : ℕ) (g : ChannelGate) (fits : Fits n g) (old new : List ℕ) (val
     below = λ p l. subst (λ k. k < 4 ^ n) (sym (behind_code p l)) (image-lt n valid.some valid.few g fits _ (valid.below p l));
     one_to_one = λ p q l h e.
         valid.one_to_one p q l h (
-          sym (image-image n valid.some valid.few g fits _ (valid.below p l))
-          ∙ ap (λ k. (image n g k).code) (sym (behind_code p l) ∙ e ∙ behind_code q h)
-          ∙ image-image n valid.some valid.few g fits _ (valid.below q h)
+        sym (image-image n valid.some valid.few g fits _ (valid.below p l))
+        ∙ ap (λ k. (image n g k).code) (sym (behind_code p l) ∙ e ∙ behind_code q h)
+        ∙ image-image n valid.some valid.few g fits _ (valid.below q h)
         );
     onto = λ q l none.
         valid.onto (image n g q).code (image-lt n valid.some valid.few g fits q l) (λ p h e.
         none p h (behind_code p h ∙ ap (λ k. (image n g k).code) e ∙ image-image n valid.some valid.few g fits q l));
   }
 
+  -- by one gate more
   pub behind_by : (gates : List ChannelGate) → IsConjugationBy gates (map_of n old) → IsConjugationBy (gates ++ (g ∷ [])) (map_of n new)
   behind_by gates by = record {
     fit = fits-push n gates g by.fit fits;

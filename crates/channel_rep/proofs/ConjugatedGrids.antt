@@ -1,8 +1,8 @@
 -- A channel whose rows a conjugation moves.
-use Rattle.std.proofs.Common.{◌≡◌, ℕ, ◌*◌, ◌^◌, ◌<◌, List, ◌++◌, length, take, drop, refl, ap, sym, ◌∙◌, subst}
+use Rattle.std.proofs.Common.{◌≡◌, ℕ, ◌*◌, ◌^◌, List, ◌++◌, length, take, drop, refl, ap, sym, ◌∙◌, subst}
 use Rattle.tc_ring.specs.Surds.{SurdWithin}
 use Rattle.tc_ring.specs.declared.root2.Root2.{Root2}
-use Rattle.channel_rep.specs.Tables.{Step, IsBuiltOf, signed}
+use Rattle.channel_rep.specs.Tables.{Step, IsBuiltOf}
 use Rattle.channel_rep.specs.Cells.{IsChannelGrid, EntriesWithin, entries, scaled}
 use Rattle.channel_rep.specs.Conjugations.{PauliMap, image_of, IsPauliMap, IsConjugationBy, MovesRows, gate_steps}
 use Rattle.channel_rep.specs.declared.gate.ChannelGate.{ChannelGate}

@@ -1,31 +1,22 @@
 -- The rows that a run of gates moves.
-use Rattle.std.proofs.Common.{◌≡◌, ◌≢◌, ◌⊎◌, ℕ, zero, suc, ◌+◌, ◌^◌, ◌<◌, ◌≤◌, Bool, true, false, List, [], ◌∷◌, ◌++◌, refl, ap, sym, ◌∙◌, subst, inl, inr, append_assoc, arith}
+use Rattle.std.proofs.Common.{◌≡◌, ◌≢◌, ◌⊎◌, ℕ, zero, suc, ◌+◌, ◌^◌, ◌<◌, ◌≤◌, Bool, false, List, [], ◌∷◌, ◌++◌, refl, ap, sym, ◌∙◌, subst, inl, inr, append_assoc, arith}
 use Rattle.std.proofs.lemmas.List.{append-nil}
 use Rattle.std.specs.List.{AllByRecursion}
 use Rattle.std.proofs.lemmas.Bool.{cases_eq}
-use Rattle.ring_laws.proofs.Ring.{neg-neg}
-use Rattle.tc_ring.specs.Surds.{Surd, surd_negative, surd_times}
-use Rattle.tc_ring.proofs.Surds.{surds_laws}
+use Rattle.tc_ring.specs.Surds.{Surd, surd_times}
 use Rattle.tc_ring.specs.declared.root2.Root2.{Root2}
 use Rattle.pauli_basis.specs.Products.{Signed}
 use Rattle.channel_rep.specs.Gates.{Fits, image, positive}
-use Rattle.channel_rep.specs.Tables.{SurdTable, ScaledTable, Step, by_gate, stepped, built_on, SameTable, IsBuiltOf, signed, turned_over}
+use Rattle.channel_rep.specs.Tables.{ScaledTable, Step, by_gate, stepped, built_on, SameTable, IsBuiltOf, signed}
 use Rattle.channel_rep.specs.Rows.{moved}
 use Rattle.channel_rep.specs.Cells.{cell_of, entries}
 use Rattle.channel_rep.specs.Changes.{ChangesRow}
 use Rattle.channel_rep.specs.Conjugations.{conjugated, conjugated_by, gate_steps, PauliMap, image_of, IsPauliMap, IsConjugationBy, MovesRows}
 use Rattle.channel_rep.specs.declared.gate.ChannelGate.{ChannelGate}
 use Rattle.channel_rep.proofs.Images.{image-lt, image-image}
+use Rattle.channel_rep.proofs.Signs.{signed-signed}
 use Rattle.channel_rep.proofs.Rules.{gate_rule}
 use Rattle.channel_rep.proofs.Built.{built_more, built_same, root2_to}
-
--- two signs one after another
-signed-signed : (a b : Bool) (x : Surd) → signed b (signed a x) ≡ signed (turned_over a b) x
-unfolding signed
-signed-signed true true x = neg-neg surds_laws x
-signed-signed true false x = refl
-signed-signed false true x = refl
-signed-signed false false x = refl
 
 -- no sign
 plain : (x : Surd) → x ≡ signed false x
@@ -52,7 +43,7 @@ module _ (n : ℕ) (some : 0 < n) (few : n ≤ 3) where
   gate_moves g fits m s c x l h =
       gate_rule n some few g fits m.table (image n g s.code).code c (image-lt n some few g fits s.code l)
       ∙ ap (λ k. signed (image n g k).is_negative (m.table k c)) (image-image n some few g fits s.code l)
-      ∙ ap (signed (image n g s.code).is_negative) h ∙ signed-signed s.is_negative (image n g s.code).is_negative x
+      ∙ ap (signed (image n g s.code).is_negative) h ∙ signed-signed (image n g s.code).is_negative s.is_negative x
 
   -- the same of gates one after another
   gates_move : (gates : List ChannelGate) → AllByRecursion (Fits n) gates → (m : ScaledTable) (s : Signed) (c : ℕ) (x : Surd) → s.code < 4 ^ n → m.table s.code c ≡ signed s.is_negative x

@@ -1,9 +1,9 @@
 -- Numbers with a sign.
 use Rattle.std.proofs.Common.{◌≡◌, ℕ, Bool, true, false, not, refl, ap, sym, ◌∙◌}
-use Rattle.ring_laws.proofs.Ring.{one-mul, neg-mul}
+use Rattle.ring_laws.proofs.Ring.{one-mul, neg-mul, neg-neg}
 use Rattle.tc_ring.specs.Surds.{Surd, surd_integer, surd_times, surd_negative, zero_surd, one_surd, SurdWithin}
 use Rattle.tc_ring.proofs.Surds.{surds_laws, surd_within_negative}
-use Rattle.channel_rep.specs.Tables.{signed}
+use Rattle.channel_rep.specs.Tables.{signed, turned_over}
 
 -- with the sign
 pub signed-true : (b : Bool) (x : Surd) → b ≡ true → surd_negative x ≡ signed b x
@@ -46,3 +46,11 @@ pub signed_within : (a : ℕ) (b : Bool) (x : Surd) → SurdWithin a x → SurdW
 unfolding signed
 signed_within a true x h = surd_within_negative a x h
 signed_within a false x h = h
+
+-- two signs one after another
+pub signed-signed : (a b : Bool) (x : Surd) → signed a (signed b x) ≡ signed (turned_over b a) x
+unfolding signed
+signed-signed true true x = neg-neg surds_laws x
+signed-signed true false x = refl
+signed-signed false true x = refl
+signed-signed false false x = refl

@@ -8,11 +8,11 @@ ghost use Rattle.channel_rep.specs.Conjugations.{IsConjugationBy, MovesRows, gat
 ghost use Rattle.channel_rep.specs.Gates.{Fits};
 ghost use Rattle.channel_rep.specs.Tables.{Step, by_gate, by_rotation, by_inverse_rotation, gate_table, rotation_table, signed, ScaledTable, SameTable, IsBuiltOf};
 
-use crate::{ChannelGate, Conjugation};
 use crate::halves::divide_out;
 use crate::rows::cell_at;
 use crate::steps::{codes, conjugate_rows, move_rows, rotate_rows};
 use crate::units::{is_signed_permutation, unit_of_column};
+use crate::{ChannelGate, Conjugation};
 use pauli_basis::Pauli;
 use std::alloc::{AllocError, Global};
 use std::marker::Model;

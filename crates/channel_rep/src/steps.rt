@@ -7,8 +7,8 @@ ghost use Rattle.channel_rep.specs.Conjugations.{IsPauliMap, MovesRows};
 ghost use Rattle.channel_rep.specs.Gates.{Fits};
 ghost use Rattle.tc_ring.specs.Surds.{SurdWithin};
 
-use crate::{ChannelGate, Conjugation};
 use crate::rows::{put_row, scale_row, sign_row, swap_pair, turn_pair};
+use crate::{ChannelGate, Conjugation};
 use pauli_basis::Pauli;
 use tc_ring::Root2;
 

@@ -126,13 +126,14 @@ impl Progress {
     }
 
     /// The channel of all gates that were taken.
-    pub fn finish(mut self) -> Channel
+    pub fn finish(self) -> Channel
         ensures qubits { result.qubits ≡ self.channel.qubits }
         ensures grown { result.grown ≡ self.channel.grown }
         ensures built { (steps : List Step) → HasTaken steps self
             → IsBuiltOf self.channel.qubits steps (scaled result) }
     {
-        self.settle();
-        self.channel
+        let mut last = self;
+        last.settle();
+        last.channel
     }
 }

@@ -1,4 +1,4 @@
-use Rattle.std.proofs.Common.{◌≡◌, ◌+◌, ◌-◌, ◌*◌, ◌<◌, ◌≤◌, ◌^◌, ℕ, length, ap, sym, ◌∙◌, arith}
+use Rattle.std.proofs.Common.{◌≡◌, ◌+◌, ◌-◌, ◌*◌, ◌^◌, ℕ, length, ap, sym, ◌∙◌, arith}
 use Rattle.channel_rep.proofs.Places.{lent_row}
 use Rattle.channel_rep.proofs.Moves.{moved_more}
 use Rattle.channel_rep.proofs.steps.conjugate_rows.Goals as goal

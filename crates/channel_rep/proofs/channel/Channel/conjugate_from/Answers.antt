@@ -1,4 +1,4 @@
-use Rattle.std.proofs.Common.{◌≡◌, ◌^◌, List, ◌++◌, ap, sym, ◌∙◌, subst}
+use Rattle.std.proofs.Common.{◌^◌, List, ◌++◌, ap, sym, ◌∙◌, subst}
 use Rattle.std.specs.Vec.{with_items}
 use Rattle.channel_rep.specs.Cells.{ChannelGrid, EntriesWithin, scaled}
 use Rattle.channel_rep.specs.Tables.{Step, IsBuiltOf}
@@ -28,5 +28,5 @@ returns-clause-built c =
     (c.requires.as_many ∙ sym qubits) (ap (λ (g : ChannelGrid). g.qubits) c.self.view_is ∙ c.requires.same ∙ sym qubits) c.conjugate_rows.ensures.valid c.o.invariant c.deref.ensures.value
     c.self.invariant.whole c.deref_mut.ensures.value c.deref_mut.ensures.len c.conjugate_rows.ensures.whole c.conjugate_rows.ensures.rows in
     let P = λ (g : ChannelGrid). (gates : List ChannelGate) → IsConjugationBy gates c.args.by.now → (steps : List Step) → IsBuiltOf g.qubits steps (scaled g)
-        → IsBuiltOf g.qubits (steps ++ gate_steps gates) (scaled (grid c.self.inside.n c.o.inside.k c.o.inside.grown (with_items c.self.inside.cells c.conjugate_rows.new.cells).items)) in
+    → IsBuiltOf g.qubits (steps ++ gate_steps gates) (scaled (grid c.self.inside.n c.o.inside.k c.o.inside.grown (with_items c.self.inside.cells c.conjugate_rows.new.cells).items)) in
     subst P c.o.view_is done.built

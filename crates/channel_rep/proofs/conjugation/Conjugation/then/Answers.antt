@@ -1,4 +1,4 @@
-use Rattle.std.proofs.Common.{◌^◌, ◌≡◌, ◌<◌, ℕ, List, [], ◌∷◌, ◌++◌, sym, subst, arith}
+use Rattle.std.proofs.Common.{◌^◌, ◌≡◌, ◌<◌, ℕ, List, [], ◌∷◌, ◌++◌, sym, subst}
 use Rattle.channel_rep.specs.Gates.{Fits}
 use Rattle.channel_rep.specs.Conjugations.{PauliMap, image_of, conjugated, IsConjugationBy}
 use Rattle.channel_rep.specs.declared.gate.ChannelGate.{ChannelGate}
