@@ -103,7 +103,8 @@ impl Progress {
             → HasTaken (steps ++ by_inverse_rotation (z_code q) ∷ []) self.new }
     {
         self.settle();
-        self.channel.left_rotation_inverse(z_on(self.channel.qubits(), q));
+        self.channel
+            .left_rotation_inverse(z_on(self.channel.qubits(), q));
     }
 
     /// Takes a gate. A T gate is a rotation by Z, or the inverse of one.

@@ -1,8 +1,8 @@
-use Rattle.std.proofs.Common.{◌+◌, ◌<◌, ◌≤◌, cond, get_or, take, List, ℕ, ap, sym, subst, ◌∙◌, arith}
+use Rattle.std.proofs.Common.{◌+◌, ◌<◌, ◌≤◌, cond, get_or, List, ap, sym, subst, ◌∙◌, arith}
 use Rattle.tc_circuit.specs.Gate.{is_t}
 use Rattle.tc_circuit.specs.Model.{matrix_of, IsCircuit}
 use Rattle.channel_rep.specs.Cells.{scaled}
-use Rattle.channel_rep.specs.Tables.{Step, IsBuiltOf, built}
+use Rattle.channel_rep.specs.Tables.{Step, built}
 use Rattle.tc_bridge.specs.Steps.{steps_of}
 use Rattle.tc_bridge.specs.Progress.{HasTaken}
 use Rattle.tc_bridge.proofs.Channels.{same_table_channel}

@@ -1,4 +1,4 @@
-use Rattle.std.proofs.Common.{◌≡◌, ℕ, [], refl, sym, subst}
+use Rattle.std.proofs.Common.{ℕ, [], refl, sym, subst}
 use Rattle.channel_rep.specs.Cells.{scaled}
 use Rattle.channel_rep.specs.Tables.{IsBuiltOf}
 use Rattle.tc_bridge.proofs.progress.Progress.start.Goals as goal
