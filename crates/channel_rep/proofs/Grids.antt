@@ -53,7 +53,7 @@ grown_within n grown most cells cells' l e small r c h m =
     surd_within_more (2 ^ grown) (2 ^ most) _ (pow-le-pow_right {n = 2} (lit< tt) l) (subst (λ xs. SurdWithin (2 ^ grown) (entries (4 ^ n) xs r c)) (sym e) (small r c h m))
 
 -- cells that were lent as a slice, and written
-given_back : (len size : ℕ) (old lent new : List Root2) → lent ≡ old → length lent ≡ len → length old ≡ size → length new ≡ size → take len (new ++ drop (length new) old) ≡ new
+pub given_back : (len size : ℕ) (old lent new : List Root2) → lent ≡ old → length lent ≡ len → length old ≡ size → length new ≡ size → take len (new ++ drop (length new) old) ≡ new
 given_back len size old lent new same long before after =
     let e : len ≡ length new = sym long ∙ ap length same ∙ before ∙ sym after in
     ap (λ k. take k (new ++ drop (length new) old)) e ∙ take-append_seam new (drop (length new) old)

@@ -84,7 +84,7 @@ unfolding turns
 cross_3 = tt
 
 -- the second test, where the first is of two numbers that differ
-apart : (a b : ℕ) (other : Bool) → a ≢ b → T (eqb a b || other) → T other
+pub apart : (a b : ℕ) (other : Bool) → a ≢ b → T (eqb a b || other) → T other
 apart a b other d h = subst (λ (x : Bool). T (x || other)) (ne_eqb a b d) h
 
 -- cx by bits is cx by products

@@ -1,11 +1,15 @@
 pub mod Places
 pub mod Images
+pub mod Bytes
+pub mod Conjugated
 pub mod Signs
 pub mod Rules
 pub mod Sweeps
 pub mod Built
 pub mod Squares
+pub mod Moves
 pub mod Grids
+pub mod ConjugatedGrids
 pub mod OneUnit
 pub mod OnePower
 pub mod Least

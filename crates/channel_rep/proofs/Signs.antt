@@ -54,12 +54,13 @@ unfolding signed
 signed-twice true x = neg-neg surds_laws x
 signed-twice false x = refl
 
--- two signs are one
-pub signed-signed : (b d : Bool) (x : Surd) → signed b (signed d x) ≡ signed (turned_over b d) x
+-- two signs one after another
+pub signed-signed : (a b : Bool) (x : Surd) → signed a (signed b x) ≡ signed (turned_over b a) x
 unfolding signed
 signed-signed true true x = neg-neg surds_laws x
 signed-signed true false x = refl
-signed-signed false d x = refl
+signed-signed false true x = refl
+signed-signed false false x = refl
 
 -- a factor goes under a sign
 pub times-signed : (b : Bool) (x y : Surd) → surd_times x (signed b y) ≡ signed b (surd_times x y)

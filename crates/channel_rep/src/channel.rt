@@ -4,14 +4,15 @@ ghost use Rattle.ring_laws.specs.Matrix.{product, identity, Agree};
 ghost use Rattle.tc_ring.specs.Root2.{surd_of};
 ghost use Rattle.tc_ring.specs.Surds.{surds, SurdWithin, one_surd};
 ghost use Rattle.channel_rep.specs.Cells.{entries, cell_of};
+ghost use Rattle.channel_rep.specs.Conjugations.{IsConjugationBy, MovesRows, gate_steps};
 ghost use Rattle.channel_rep.specs.Gates.{Fits};
 ghost use Rattle.channel_rep.specs.Tables.{Step, by_gate, by_rotation, by_inverse_rotation, gate_table, rotation_table, signed, ScaledTable, SameTable, IsBuiltOf};
 
-use crate::ChannelGate;
 use crate::halves::divide_out;
 use crate::rows::cell_at;
-use crate::steps::{codes, move_rows, rotate_rows};
+use crate::steps::{codes, conjugate_rows, move_rows, rotate_rows};
 use crate::units::{is_signed_permutation, unit_of_column};
+use crate::{ChannelGate, Conjugation};
 use pauli_basis::Pauli;
 use std::alloc::{AllocError, Global};
 use std::marker::Model;
@@ -192,6 +193,24 @@ impl Channel {
         self.k = o.k;
         self.grown = o.grown;
         self.cells.copy_from_slice(&o.cells);
+    }
+
+    /// Makes the channel into the conjugation's channel times another one, on as many qubits: each row of the other one
+    /// goes to the row of its image, with the image's sign. It takes no memory.
+    pub fn conjugate_from(&mut self, o: &Channel, by: &Conjugation)
+        requires same { self.old.qubits ≡ o.now.qubits }
+        requires as_many { by.now.qubits ≡ o.now.qubits }
+        ensures qubits { self.new.qubits ≡ o.now.qubits }
+        ensures exponent { self.new.exponent ≡ o.now.exponent }
+        ensures grown { self.new.grown ≡ o.now.grown }
+        ensures rows { MovesRows by.now (table_of o.now) (table_of self.new) }
+        ensures built { (gates : List ChannelGate) → IsConjugationBy gates by.now
+            → (steps : List Step) → IsBuiltOf o.now.qubits steps (scaled o.now)
+            → IsBuiltOf o.now.qubits (steps ++ gate_steps gates) (scaled self.new) }
+    {
+        self.k = o.k;
+        self.grown = o.grown;
+        conjugate_rows(&mut self.cells, &o.cells, by);
     }
 
     /// Divides the cells by √2 as often as all of them can be divided, at most as often as the exponent says: the value

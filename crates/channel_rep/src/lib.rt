@@ -11,6 +11,7 @@
 #![tactic(auto)]
 
 mod channel;
+mod conjugation;
 mod gate;
 mod halves;
 mod rows;
@@ -18,6 +19,7 @@ mod steps;
 mod units;
 
 pub use channel::Channel;
+pub use conjugation::Conjugation;
 pub use gate::ChannelGate;
 
 #[cfg(test)]

@@ -135,3 +135,17 @@ pub fn cell_at(cells: &[Root2], size: usize, row: usize, column: usize) -> Root2
 {
     cells[row * size + column]
 }
+
+/// Puts a row, with a sign, in the place of a row.
+pub fn put_row(cells: &mut [Root2], size: usize, row: usize, new_row: &[Root2], negative: bool)
+    requires below { row < size }
+    requires whole { length cells.old ≡ size * size }
+    requires long { length new_row.now ≡ size }
+    requires small { RowWithin (2 ^ 62) new_row.now }
+    ensures whole { length cells.new ≡ size * size }
+    ensures row { ChangesRow size row (λ c. signed negative (cell_of new_row.now c)) cells.old cells.new }
+{
+    let place = &mut cells[row * size..(row + 1) * size];
+    place.copy_from_slice(new_row);
+    negate_if(place, negative);
+}

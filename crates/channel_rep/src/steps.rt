@@ -3,11 +3,12 @@ ghost use Rattle.std.specs.Prelude.{◌≡◌, ℕ, ◌+◌, ◌*◌, ◌^◌, �
 ghost use Rattle.channel_rep.specs.Cells.{entries, EntriesWithin};
 ghost use Rattle.channel_rep.specs.Changes.{ChangesRows};
 ghost use Rattle.channel_rep.specs.Rows.{rotated, moved, rotation_turn, gate_turn};
+ghost use Rattle.channel_rep.specs.Conjugations.{IsPauliMap, MovesRows};
 ghost use Rattle.channel_rep.specs.Gates.{Fits};
 ghost use Rattle.tc_ring.specs.Surds.{SurdWithin};
 
-use crate::ChannelGate;
-use crate::rows::{scale_row, sign_row, swap_pair, turn_pair};
+use crate::rows::{put_row, scale_row, sign_row, swap_pair, turn_pair};
+use crate::{ChannelGate, Conjugation};
 use pauli_basis::Pauli;
 use tc_ring::Root2;
 
@@ -99,5 +100,22 @@ pub fn move_rows(cells: &mut [Root2], n: u8, gate: ChannelGate)
 {
     for row in 0..codes(n) {
         move_row(cells, n, gate, row);
+    }
+}
+
+/// Puts each row of other cells at the row of its image, with the image's sign.
+pub fn conjugate_rows(cells: &mut [Root2], from: &[Root2], by: &Conjugation)
+    requires whole { length cells.old ≡ 4 ^ by.now.qubits * 4 ^ by.now.qubits }
+    requires as_long { length from.now ≡ 4 ^ by.now.qubits * 4 ^ by.now.qubits }
+    requires small { EntriesWithin (2 ^ 62) (4 ^ by.now.qubits) from.now }
+    ensures whole { length cells.new ≡ 4 ^ by.now.qubits * 4 ^ by.now.qubits }
+    ensures valid { IsPauliMap by.now }
+    ensures rows { MovesRows by.now (entries (4 ^ by.now.qubits) from.now) (entries (4 ^ by.now.qubits) cells.new) }
+{
+    let size = codes(by.qubits());
+    for row in 0..size {
+        let (image, negative) = by.image(row as u8);
+        let old_row = &from[row * size..(row + 1) * size];
+        put_row(cells, size, image as usize, old_row, negative);
     }
 }

@@ -1,6 +1,6 @@
 ghost use Rattle.std.specs.Prelude.{◌≡◌, ◌≢◌, IfOk};
 
-use crate::{Channel, ChannelGate};
+use crate::{Channel, ChannelGate, Conjugation};
 use pauli_basis::Pauli;
 use std::process::Abort;
 use std::test::Fail;
@@ -111,4 +111,54 @@ fn an_inverse_undoes_a_rotation(rt: HostRuntime) -> Result<(), Fail> {
             (63, 63, false),
         ],
     )
+}
+
+#[test]
+fn a_run_conjugates_each_pauli(rt: HostRuntime) -> Result<(), Fail> {
+    // sdg and h on the control, and then cx: X of the control goes to −Y and on to Y, which takes X along; Z goes to X and
+    // so to X on both; Z of the target takes Z along.
+    let mut run = Conjugation::identity(2);
+    run.then(ChannelGate::Sdg(0));
+    run.then(ChannelGate::H(0));
+    run.then(ChannelGate::Cx(0, 1));
+    assert_eq!(rt; run.qubits(), 2);
+    let want = [
+        (0, 0, false),
+        (1, 6, false),
+        (2, 3, false),
+        (3, 5, false),
+        (4, 4, false),
+        (8, 11, false),
+        (12, 15, false),
+    ];
+    for (code, image, negative) in want {
+        assert_eq!(rt; run.image(code), (image, negative), "the image of {code}");
+    }
+    Ok(())
+}
+
+#[test]
+fn a_run_moves_rows_as_its_gates_do(rt: HostRuntime) -> Result<(), Fail> {
+    let mut run = Conjugation::identity(3);
+    run.then(ChannelGate::S(1));
+    run.then(ChannelGate::H(1));
+    run.then(ChannelGate::Cx(2, 1));
+    let mut one_by_one = Channel::identity(rt.alloc(), 3)?;
+    one_by_one.left_rotation(pauli(3, 27)?);
+    let mut at_once = Channel::identity(rt.alloc(), 3)?;
+    at_once.conjugate_from(&one_by_one, &run);
+    one_by_one.left_gate(ChannelGate::S(1));
+    one_by_one.left_gate(ChannelGate::H(1));
+    one_by_one.left_gate(ChannelGate::Cx(2, 1));
+    assert_eq!(rt; at_once.exponent(), one_by_one.exponent());
+    for row in 0..64usize {
+        for col in 0..64usize {
+            assert_eq!(rt;
+                at_once.cell(row, col),
+                one_by_one.cell(row, col),
+                "at {row}, {col}"
+            );
+        }
+    }
+    Ok(())
 }

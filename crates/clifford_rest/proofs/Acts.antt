@@ -22,7 +22,7 @@ use Rattle.tc_bridge.proofs.Powers.{sign-false, sign-times}
 use Rattle.tc_bridge.proofs.Embeddings.{embed-identity, embed-signed}
 use Rattle.tc_bridge.proofs.Channels.{channel_at, channel_from}
 use Rattle.tc_bridge.proofs.CircuitChannels.{gate_conjugates}
-use Rattle.clifford_rest.specs.Sweep.{conjugated, conjugated_by}
+use Rattle.channel_rep.specs.Conjugations.{conjugated, conjugated_by}
 
 -- U·P = ±Q·U: U conjugates P to Q with the sign
 pub record Acts (n : ℕ) (u : Table) (p : ℕ) (s : Signed) : Type 0 where

@@ -1,5 +1,5 @@
 -- Conjugation of codes by gates and by their inverses.
-use Rattle.std.proofs.Common.{◌≡◌, ℕ, ◌^◌, ◌<◌, ◌≤◌, Bool, true, false, ◌&&◌, T as Holds, eqb, eqb→eq, List, [], ◌∷◌, ◌++◌, length, refl, ap, sym, ◌∙◌, arith}
+use Rattle.std.proofs.Common.{◌≡◌, ℕ, ◌^◌, ◌<◌, ◌≤◌, Bool, true, false, ◌&&◌, T as Holds, eqb, eqb→eq, List, [], ◌∷◌, length, refl, ap, sym, ◌∙◌, arith}
 use Rattle.std.specs.List.{AllByRecursion}
 use Rattle.std.proofs.lemmas.List.{length-append}
 use mathlib.Core.Bool.{beq}
@@ -10,15 +10,11 @@ use Rattle.channel_rep.specs.declared.gate.ChannelGate.TheVariants.{H, S, Sdg, C
 use Rattle.channel_rep.specs.Gates.{Fits, image}
 use Rattle.channel_rep.specs.Tables.{turned_over}
 use Rattle.channel_rep.proofs.Images.{image-lt, beq_is}
+use Rattle.channel_rep.proofs.Conjugated.{conjugated_by-append}
 use Rattle.tc_bridge.specs.Block.{inverse_gate, undone}
 use Rattle.tc_bridge.proofs.GateTerms.{all_cliffords, each_clifford}
 use Rattle.tc_bridge.proofs.Conjugations.{inverse_fits, undone_fits}
-use Rattle.clifford_rest.specs.Sweep.{conjugated, conjugated_by}
-
--- gates behind gates
-pub conjugated_by-append : (n : ℕ) (c d : List ChannelGate) (s : Signed) → conjugated_by n (c ++ d) s ≡ conjugated_by n d (conjugated_by n c s)
-conjugated_by-append n [] d s = refl
-conjugated_by-append n (g ∷ c) d s = conjugated_by-append n c d (conjugated n g s)
+use Rattle.channel_rep.specs.Conjugations.{conjugated, conjugated_by}
 
 -- ---- the inverse gate turns back
 abbrev turns_back : ℕ → ChannelGate → ℕ → Bool

@@ -8,7 +8,8 @@ use Rattle.channel_rep.specs.Gates.{Fits, positive}
 use Rattle.channel_rep.specs.declared.gate.ChannelGate.{ChannelGate}
 use Rattle.channel_rep.specs.declared.gate.ChannelGate.TheVariants.{H, S, Sdg, Cx}
 use Rattle.clifford_rest.specs.Rest.{IsUndoGate}
-use Rattle.clifford_rest.specs.Sweep.{conjugated_by, qubit_gates}
+use Rattle.channel_rep.specs.Conjugations.{conjugated_by}
+use Rattle.clifford_rest.specs.Sweep.{qubit_gates}
 use Rattle.clifford_rest.proofs.Ends.{with_sign, fits, all_fit, is_positive, is_free, keeps_lower, ends, ends_with_signs, ends_at, ends_from, ends_1_0, ends_2_0, ends_2_1, ends_3_1, ends_3_2, ends_part, part_0, part_1, part_2, part_3}
 
 -- the test of one code of a part

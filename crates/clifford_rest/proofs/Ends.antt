@@ -6,7 +6,8 @@ use Rattle.channel_rep.specs.Gates.{image, positive}
 use Rattle.channel_rep.specs.declared.gate.ChannelGate.{ChannelGate}
 use Rattle.channel_rep.specs.declared.gate.ChannelGate.TheVariants.{H, S, Sdg, Cx}
 use Rattle.pauli_basis.proofs.Small.{all}
-use Rattle.clifford_rest.specs.Sweep.{conjugated_by, qubit_gates}
+use Rattle.channel_rep.specs.Conjugations.{conjugated_by}
+use Rattle.clifford_rest.specs.Sweep.{qubit_gates}
 
 -- a code with a sign
 abbrev pub with_sign : ℕ → Bool → Signed

@@ -10,8 +10,9 @@ use Rattle.tc_bridge.specs.Block.{as_gate, as_gates, inverse_gate, undone}
 use Rattle.tc_bridge.proofs.Conjugations.{as_gates-append}
 use Rattle.clifford_rest.specs.Rest.{sent_to, undo_gates, rest_of}
 use Rattle.clifford_rest.specs.State.{gates_behind}
-use Rattle.clifford_rest.specs.Sweep.{conjugated, conjugated_by, undo_list}
-use Rattle.clifford_rest.proofs.Codes.{conjugated_by-append}
+use Rattle.channel_rep.specs.Conjugations.{conjugated, conjugated_by}
+use Rattle.clifford_rest.specs.Sweep.{undo_list}
+use Rattle.channel_rep.proofs.Conjugated.{conjugated_by-append}
 
 -- one qubit more
 pub undo_list_more : (c : ChannelGrid) (q : ℕ) (gates now more new : List ChannelGate) → gates ≡ undo_list c.qubits (sent_to c.qubits (table_of c)) q → now ≡ gates → more ≡ gates_behind c now q → new ≡ gates ++ more

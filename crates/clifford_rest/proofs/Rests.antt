@@ -24,7 +24,7 @@ use Rattle.tc_bridge.proofs.Rotations.{turned_axis, rotation_channel}
 use Rattle.tc_bridge.proofs.Unique.{unique}
 use Rattle.tc_bridge.proofs.Unitary.{unitary_circuit}
 use Rattle.clifford_rest.specs.Rest.{IsUndoGate, IsRestGate, sent_to, undo_gates, rest_of}
-use Rattle.clifford_rest.specs.Sweep.{conjugated_by}
+use Rattle.channel_rep.specs.Conjugations.{conjugated_by}
 use Rattle.clifford_rest.proofs.Acts.{Acts, HasEntry, acts_circuit, acts_from_channel, channel_from_acts}
 use Rattle.clifford_rest.proofs.Codes.{conjugated_by-undone, length-undone}
 use Rattle.clifford_rest.proofs.Fixed.{all_stay}

@@ -20,7 +20,7 @@ use Rattle.tc_bridge.specs.Block.{as_gates, undone}
 use Rattle.tc_bridge.specs.Steps.{steps_of}
 use Rattle.tc_bridge.proofs.Conjugations.{undone_fits}
 use Rattle.tc_bridge.proofs.Counts.{t_count-cons}
-use Rattle.clifford_rest.specs.Sweep.{conjugated_by}
+use Rattle.channel_rep.specs.Conjugations.{conjugated_by}
 use Rattle.clifford_rest.proofs.Acts.{HasEntry}
 use Rattle.clifford_rest.proofs.Codes.{conjugated_by-lt, conjugated_by-undone, undone-conjugated_by, conjugated_code}
 use Rattle.clifford_rest.proofs.Tables.{entry_built, gates_exponent}

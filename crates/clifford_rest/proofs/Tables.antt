@@ -1,11 +1,9 @@
 -- Tables with one entry in each column, 1 or −1, under gates.
-use Rattle.std.proofs.Common.{◌≡◌, ℕ, ◌+◌, ◌^◌, ◌<◌, ◌≤◌, Bool, true, false, List, [], ◌∷◌, refl, ap, sym, ◌∙◌, inl, inr, arith}
+use Rattle.std.proofs.Common.{◌≡◌, ℕ, ◌+◌, ◌^◌, ◌<◌, ◌≤◌, List, [], ◌∷◌, refl, ap, sym, ◌∙◌, inl, inr, arith}
 use Rattle.std.specs.List.{AllByRecursion}
 use Rattle.std.proofs.lemmas.Bool.{cases_eq}
 use Rattle.ring_laws.specs.Matrix.{identity, Agree}
 use Rattle.tc_ring.specs.Surds.{Surd, surds, one_surd}
-use Rattle.ring_laws.proofs.Ring.{neg-neg}
-use Rattle.tc_ring.proofs.Surds.{surds_laws}
 use Rattle.pauli_basis.specs.Products.{Signed}
 use Rattle.channel_rep.specs.declared.gate.ChannelGate.{ChannelGate}
 use Rattle.channel_rep.specs.declared.gate.ChannelGate.TheVariants.{H, S, Sdg, Cx}
@@ -14,19 +12,11 @@ use Rattle.channel_rep.specs.Rows.{moved}
 use Rattle.channel_rep.specs.Tables.{ScaledTable, by_gate, signed, turned_over, stepped, built_on, built}
 use Rattle.channel_rep.proofs.Images.{image-lt, image-image}
 use Rattle.channel_rep.proofs.Rules.{one_at, zero_at, gate_rule}
-use Rattle.channel_rep.proofs.Signs.{signed-zero}
+use Rattle.channel_rep.proofs.Signs.{signed-zero, signed-signed}
 use Rattle.tc_bridge.specs.Block.{as_gates}
 use Rattle.tc_bridge.specs.Steps.{steps_of}
-use Rattle.clifford_rest.specs.Sweep.{conjugated, conjugated_by}
+use Rattle.channel_rep.specs.Conjugations.{conjugated, conjugated_by}
 use Rattle.clifford_rest.proofs.Acts.{HasEntry}
-
--- two signs
-signed-signed : (a b : Bool) (x : Surd) → signed a (signed b x) ≡ signed (turned_over b a) x
-unfolding signed
-signed-signed true true x = neg-neg surds_laws x
-signed-signed true false x = refl
-signed-signed false true x = refl
-signed-signed false false x = refl
 
 module _ (n : ℕ) (some : 0 < n) (few : n ≤ 3) where
   -- a gate moves the entry to the image and multiplies the signs

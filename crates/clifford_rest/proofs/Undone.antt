@@ -14,11 +14,12 @@ use Rattle.channel_rep.specs.Gates.{Fits, positive}
 use Rattle.tc_bridge.specs.Block.{as_gates}
 use Rattle.tc_bridge.proofs.Conjugations.{all-append}
 use Rattle.clifford_rest.specs.Rest.{IsUndoGate}
-use Rattle.clifford_rest.specs.Sweep.{conjugated_by, qubit_gates, undo_list}
+use Rattle.channel_rep.specs.Conjugations.{conjugated_by}
+use Rattle.clifford_rest.specs.Sweep.{qubit_gates, undo_list}
 use Rattle.clifford_rest.proofs.Acts.{Acts, acts_after}
 use Rattle.clifford_rest.proofs.Invertible.{IsInvertible, invertible_after}
 use Rattle.clifford_rest.proofs.Multiplies.{Multiplies, multiplies}
-use Rattle.clifford_rest.proofs.Codes.{conjugated_by-append}
+use Rattle.channel_rep.proofs.Conjugated.{conjugated_by-append}
 use Rattle.clifford_rest.proofs.Ends.{is_free}
 use Rattle.clifford_rest.proofs.Ended.{most, qubit_ends, Ended, ended}
 

@@ -5,7 +5,8 @@ use Rattle.channel_rep.specs.Cells.{ChannelGrid, table_of}
 use Rattle.channel_rep.specs.Gates.{Fits}
 use Rattle.channel_rep.specs.declared.gate.ChannelGate.{ChannelGate}
 use Rattle.clifford_rest.specs.Rest.{sent_to}
-use Rattle.clifford_rest.specs.Sweep.{Sweep, conjugated_by, qubit_gates}
+use Rattle.channel_rep.specs.Conjugations.{conjugated_by}
+use Rattle.clifford_rest.specs.Sweep.{Sweep, qubit_gates}
 
 -- a sweep on so many qubits
 pub record Sweeping : Type 0 where

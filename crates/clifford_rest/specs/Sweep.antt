@@ -4,20 +4,9 @@
 use Rattle.std.specs.Prelude.{ℕ, zero, suc, ◌+◌, ◌-◌, ◌*◌, ◌^◌, ◌==◌, Bool, true, false, not, ◌&&◌, Option, Some, None, List, [], ◌∷◌, ◌++◌, if◌then◌else◌}
 use Rattle.pauli_basis.specs.Letters.{letter_of}
 use Rattle.pauli_basis.specs.Products.{Signed}
-use Rattle.channel_rep.specs.Gates.{image}
-use Rattle.channel_rep.specs.Tables.{turned_over}
+use Rattle.channel_rep.specs.Conjugations.{conjugated, conjugated_by}
 use Rattle.channel_rep.specs.declared.gate.ChannelGate.{ChannelGate}
 use Rattle.channel_rep.specs.declared.gate.ChannelGate.TheVariants.{H, Sdg, Cx}
-
--- ---- conjugation of a Pauli with a sign
--- by one gate
-abbrev pub conjugated : ℕ → ChannelGate → Signed → Signed
-conjugated n g p = let s = image n g p.code in record { code = s.code; is_negative = turned_over p.is_negative s.is_negative }
-
--- by gates one after another
-abbrev pub conjugated_by : ℕ → List ChannelGate → Signed → Signed
-conjugated_by n [] p = p
-conjugated_by n (g ∷ gates) p = conjugated_by n gates (conjugated n g p)
 
 -- ---- the sweep of one qubit
 -- A and B, what the operator makes of X and Z on the qubit, and the gates undone so far, the first undone first

@@ -10,7 +10,7 @@ ghost use Rattle.tc_bridge.specs.Channel.{IsChannel};
 ghost use Rattle.tc_bridge.specs.Steps.{steps_of};
 ghost use Rattle.clifford_rest.specs.Rest.{IsRestGate, sent_to, undo_gates, rest_of};
 ghost use Rattle.clifford_rest.specs.State.{gates_behind};
-ghost use Rattle.clifford_rest.specs.Sweep.{conjugated_by};
+ghost use Rattle.channel_rep.specs.Conjugations.{conjugated_by};
 
 use crate::pauli::{SignedPauli, image_of};
 use crate::qubit::swept;

@@ -3,7 +3,8 @@ ghost use Rattle.std.specs.Prelude.{◌≡◌, ◌==◌, ◌*◌, ◌^◌, ◌<�
 ghost use Rattle.std.specs.List.{AllByRecursion};
 ghost use Rattle.channel_rep.specs.Cells.{table_of, IsSignedPermutation};
 ghost use Rattle.channel_rep.specs.Gates.{Fits};
-ghost use Rattle.clifford_rest.specs.Sweep.{conjugated, conjugated_by, has_letter};
+ghost use Rattle.channel_rep.specs.Conjugations.{conjugated, conjugated_by};
+ghost use Rattle.clifford_rest.specs.Sweep.{has_letter};
 ghost use Rattle.clifford_rest.specs.Rest.{sent_to};
 
 use channel_rep::{Channel, ChannelGate};

@@ -15,7 +15,7 @@ swap_signed b x y z = times-signed b x (surd_times y z) ∙ ap (signed b) (mul_l
 -- a column of a column: the power of √2 of the table in the middle cancels
 pub column_trans : (n : ℕ) (a b d : ScaledTable) (p q r : ℕ) → IsColumnUpToSign n a p b q → IsColumnUpToSign n b q d r → IsColumnUpToSign n a p d r
 column_trans n a b d p q r first second = record {
-  negative = turned_over first.negative second.negative;
+  negative = turned_over second.negative first.negative;
   cells = λ row l. cancel_root2_power b.exponent _ _ (
       mul_left_comm surds_laws (root2_to b.exponent) (root2_to d.exponent) (a.table row p)
       ∙ ap (surd_times (root2_to d.exponent)) (first.cells row l)

@@ -31,3 +31,4 @@ pub mod Rising
 pub mod Traces
 pub mod Clauses
 pub mod Prefixes
+pub mod Taken

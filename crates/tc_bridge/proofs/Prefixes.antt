@@ -23,17 +23,13 @@ module _ (gates : List Gate) (i : ℕ) (l : i < length gates) (none : Gate) wher
   pub count_more : t_count_of (take (i + 1) gates) ≡ t_count_of (take i gates) + cond (is_t (get_or gates i none)) 1 0
   count_more = ap t_count_of one_more ∙ t_count-append (take i gates) (get_or gates i none ∷ []) ∙ ap (λ k. t_count_of (take i gates) + k) (t_count-cons (get_or gates i none) [] ∙ add-zero _)
 
-  -- the table of the gates so far, and then the next gate's
-  pub built_more : (m n : ℕ) (old new : ScaledTable) → m ≡ n → IsBuiltOf n (steps_of (take i gates)) old
-      → ((steps : List Step) → IsBuiltOf m steps old → IsBuiltOf m (steps ++ (step_of (get_or gates i none) ∷ [])) new)
-      → IsBuiltOf n (steps_of (take (i + 1) gates)) new
-  built_more m n old new e h step =
-      subst₂ (λ (k : ℕ) (steps : List Step). IsBuiltOf k steps new) e (sym (ap steps_of one_more ∙ steps_of-append (take i gates) (get_or gates i none ∷ [])))
-      (step (steps_of (take i gates)) (subst (λ (k : ℕ). IsBuiltOf k (steps_of (take i gates)) old) (sym e) h))
+  -- their steps
+  pub steps_more : steps_of (take (i + 1) gates) ≡ steps_of (take i gates) ++ step_of (get_or gates i none) ∷ []
+  steps_more = ap steps_of one_more ∙ steps_of-append (take i gates) (get_or gates i none ∷ [])
 
 -- the table of all of them
-pub built_all : (gates whole : List Gate) (i m n : ℕ) (old new : ScaledTable) → length gates ≤ i → gates ≡ whole → m ≡ n → IsBuiltOf n (steps_of (take i gates)) old
+pub built_all : (gates whole : List Gate) (i q m n : ℕ) (old new : ScaledTable) → length gates ≤ i → gates ≡ whole → q ≡ n → m ≡ q → IsBuiltOf q (steps_of (take i gates)) old
     → ((steps : List Step) → IsBuiltOf m steps old → IsBuiltOf m steps new) → IsBuiltOf n (steps_of whole) new
-built_all gates whole i m n old new l same e h step =
-    subst₂ (λ (k : ℕ) (steps : List Step). IsBuiltOf k steps new) e (ap steps_of (take_all i gates l ∙ same))
-    (step (steps_of (take i gates)) (subst (λ (k : ℕ). IsBuiltOf k (steps_of (take i gates)) old) (sym e) h))
+built_all gates whole i q m n old new l same e d h step =
+    subst₂ (λ (k : ℕ) (steps : List Step). IsBuiltOf k steps new) (d ∙ e) (ap steps_of (take_all i gates l ∙ same))
+    (step (steps_of (take i gates)) (subst (λ (k : ℕ). IsBuiltOf k (steps_of (take i gates)) old) (sym d) h))

@@ -9,6 +9,7 @@
 mod block;
 mod channel;
 pub mod laws;
+mod progress;
 
 pub use block::rotation_gates;
 pub use channel::channel_of;

@@ -3,7 +3,8 @@ use Rattle.channel_rep.specs.Cells.{table_of}
 use Rattle.tc_bridge.proofs.CircuitChannels.{z_on-lt}
 use Rattle.pauli_basis.specs.Products.{Signed}
 use Rattle.clifford_rest.specs.Rest.{sent_to}
-use Rattle.clifford_rest.specs.Sweep.{conjugated_by, qubit_gates}
+use Rattle.channel_rep.specs.Conjugations.{conjugated_by}
+use Rattle.clifford_rest.specs.Sweep.{qubit_gates}
 use Rattle.clifford_rest.proofs.circuit.more_gates.Goals as goal
 
 pub image_behind-a-requires-clause-below : goal.image_behind-a-requires-clause-below

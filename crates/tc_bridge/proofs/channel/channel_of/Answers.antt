@@ -1,14 +1,15 @@
-use Rattle.std.proofs.Common.{◌+◌, ◌<◌, ◌≤◌, cond, get_or, ap, sym, subst, ◌∙◌, arith}
+use Rattle.std.proofs.Common.{◌+◌, ◌<◌, ◌≤◌, cond, get_or, List, ap, sym, subst, ◌∙◌, arith}
 use Rattle.tc_circuit.specs.Gate.{is_t}
 use Rattle.tc_circuit.specs.Model.{matrix_of, IsCircuit}
 use Rattle.channel_rep.specs.Cells.{scaled}
-use Rattle.channel_rep.specs.Tables.{built}
+use Rattle.channel_rep.specs.Tables.{Step, built}
 use Rattle.tc_bridge.specs.Steps.{steps_of}
+use Rattle.tc_bridge.specs.Progress.{HasTaken}
 use Rattle.tc_bridge.proofs.Channels.{same_table_channel}
 use Rattle.tc_bridge.proofs.CircuitChannels.{circuit_channel, steps_fit}
 use Rattle.tc_bridge.proofs.Clauses.{word_then_clifford}
 use Rattle.tc_circuit.specs.declared.circuit.Gate.TheVariants.{H}
-use Rattle.tc_bridge.proofs.Prefixes.{count_more, built_more, built_all}
+use Rattle.tc_bridge.proofs.Prefixes.{count_more, steps_more, built_all}
 use Rattle.tc_bridge.proofs.channel.channel_of.Goals as goal
 
 pub loop-gate-preserved : goal.loop-gate-preserved
@@ -16,9 +17,9 @@ loop-gate-preserved c =
     let inv = c.loop-gate.invariant in
     let gates = c.gates-gates.result.now in
     record {
-      qubits = c.apply.ensures.qubits ∙ inv.qubits;
-      grown = c.apply.ensures.grown ∙ ap (λ k. k + cond (is_t (get_or gates c.loop-gate.gate-index (H 0))) 1 0) inv.grown ∙ sym (count_more gates c.loop-gate.gate-index c.loop-gate-test.true (H 0));
-      built = built_more gates c.loop-gate.gate-index c.loop-gate-test.true (H 0) _ _ (scaled c.loop-gate.channel) (scaled c.apply.new.channel) inv.qubits inv.built c.apply.ensures.built;
+      qubits = c.take.ensures.qubits ∙ inv.qubits;
+      grown = c.take.ensures.grown ∙ ap (λ k. k + cond (is_t (get_or gates c.loop-gate.gate-index (H 0))) 1 0) inv.grown ∙ sym (count_more gates c.loop-gate.gate-index c.loop-gate-test.true (H 0));
+      taken = subst (λ (steps : List Step). HasTaken steps c.take.new.self) (sym (steps_more gates c.loop-gate.gate-index c.loop-gate-test.true (H 0))) (c.take.ensures.taken _ inv.taken);
     }
 
 -- the word of the circuit
@@ -29,12 +30,19 @@ returns-clause-word c =
     let few : n ≤ 3 = omega arith in
     word_then_clifford n some few c.args.c.now.gates (subst (IsCircuit n) c.gates-gates.ensures.value c.gates-gates.ensures.fit)
 
-pub returns-in_err-channel-clause-word : goal.returns-in_err-channel-clause-word
-returns-in_err-channel-clause-word c =
+pub returns-in_err-progress-clause-word : goal.returns-in_err-progress-clause-word
+returns-in_err-progress-clause-word c =
     let n = c.args.c.now.qubits in
     let some : 0 < n = omega arith in
     let few : n ≤ 3 = omega arith in
     word_then_clifford n some few c.args.c.now.gates (subst (IsCircuit n) c.gates-gates.ensures.value c.gates-gates.ensures.fit)
+
+pub returns-clause-built : goal.returns-clause-built
+returns-clause-built c =
+    let n = c.args.c.now.qubits in
+    let gates = c.args.c.now.gates in
+    let inv = c.loop-gate.invariant in
+    built_all c.gates-gates.result.now gates c.loop-gate.gate-index _ _ n (scaled c.finish-channel.result) (scaled c.reduce.new.self) c.loop-gate-test.false c.gates-gates.ensures.value inv.qubits c.finish-channel.ensures.qubits (c.finish-channel.ensures.built _ inv.taken) c.reduce.ensures.built
 
 pub returns-clause-of_a_circuit : goal.returns-clause-of_a_circuit
 returns-clause-of_a_circuit c =
@@ -43,7 +51,7 @@ returns-clause-of_a_circuit c =
     let inv = c.loop-gate.invariant in (
       steps_of gates,
       steps_fit n gates (subst (IsCircuit n) c.gates-gates.ensures.value c.gates-gates.ensures.fit),
-      built_all c.gates-gates.result.now gates c.loop-gate.gate-index _ n (scaled c.loop-gate.channel) (scaled c.reduce.new.self) c.loop-gate-test.false c.gates-gates.ensures.value inv.qubits inv.built c.reduce.ensures.built,
+      built_all c.gates-gates.result.now gates c.loop-gate.gate-index _ _ n (scaled c.finish-channel.result) (scaled c.reduce.new.self) c.loop-gate-test.false c.gates-gates.ensures.value inv.qubits c.finish-channel.ensures.qubits (c.finish-channel.ensures.built _ inv.taken) c.reduce.ensures.built,
     )
 
 pub returns-clause-channel : goal.returns-clause-channel
@@ -54,5 +62,5 @@ returns-clause-channel c =
     let few : n ≤ 3 = omega arith in
     let inv = c.loop-gate.invariant in
     same_table_channel n (matrix_of n gates).table (built n (steps_of gates)) (scaled c.reduce.new.self)
-    (built_all c.gates-gates.result.now gates c.loop-gate.gate-index _ n (scaled c.loop-gate.channel) (scaled c.reduce.new.self) c.loop-gate-test.false c.gates-gates.ensures.value inv.qubits inv.built c.reduce.ensures.built)
+    (built_all c.gates-gates.result.now gates c.loop-gate.gate-index _ _ n (scaled c.finish-channel.result) (scaled c.reduce.new.self) c.loop-gate-test.false c.gates-gates.ensures.value inv.qubits c.finish-channel.ensures.qubits (c.finish-channel.ensures.built _ inv.taken) c.reduce.ensures.built)
     (circuit_channel n some few gates (subst (IsCircuit n) c.gates-gates.ensures.value c.gates-gates.ensures.fit))

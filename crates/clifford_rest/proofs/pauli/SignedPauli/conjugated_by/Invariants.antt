@@ -1,5 +1,5 @@
 use Rattle.std.proofs.Common.{◌≡◌, ◌^◌, ◌<◌, take}
-use Rattle.clifford_rest.specs.Sweep.{conjugated_by}
+use Rattle.channel_rep.specs.Conjugations.{conjugated_by}
 use Rattle.clifford_rest.proofs.pauli.SignedPauli.conjugated_by.Given as goal
 
 abbrev pub invariant-loop-gate : goal.invariant-loop-gate

@@ -4,7 +4,7 @@ use Rattle.pauli_basis.specs.Pauli.{PauliString}
 use Rattle.pauli_basis.proofs.Letters.{two_bits}
 use Rattle.tc_bridge.specs.Steps.{z_on}
 use Rattle.tc_bridge.proofs.CircuitChannels.{z_on-lt, z_on-nonzero}
-use Rattle.tc_bridge.proofs.channel.z_on.Goals as goal
+use Rattle.tc_bridge.proofs.progress.z_on.Goals as goal
 
 -- nothing is shifted out
 code_is : (q : ℕ) → q < 3 → (3 * 2 ^ (2 * q)) % 256 ≡ z_on q

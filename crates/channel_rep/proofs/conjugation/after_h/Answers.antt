@@ -1,0 +1,6 @@
+use Rattle.std.proofs.Common.{arith}
+use Rattle.channel_rep.proofs.Bytes.{h_byte_is}
+use Rattle.channel_rep.proofs.conjugation.after_h.Goals as goal
+
+pub returns : goal.returns
+returns c = h_byte_is c.args.q c.args.image c.requires (omega arith)

@@ -1,0 +1,6 @@
+use Rattle.std.proofs.Common.{arith}
+use Rattle.channel_rep.proofs.Bytes.{s_byte_is}
+use Rattle.channel_rep.proofs.conjugation.after_s.Goals as goal
+
+pub returns : goal.returns
+returns c = s_byte_is c.args.q c.args.image c.requires (omega arith)
