@@ -39,7 +39,7 @@ cx_byte control target byte =
 abbrev same : Signed → Signed → Bool
 same a b = eqb a.code b.code && beq a.is_negative b.is_negative
 
--- the two that pass are
+-- two that pass are the same
 same_is : (a b : Signed) → T (same a b) → a ≡ b
 same_is a b h = λ i. record { code = eqb→eq a.code b.code (and_left _ _ h) i; is_negative = beq_is a.is_negative b.is_negative (and_right (eqb a.code b.code) _ h) i }
 
@@ -48,12 +48,12 @@ h_bytes : T (all 3 (λ q. all 256 (λ byte. same (pauli_in (h_byte q byte)) (con
 unfolding image
 h_bytes = tt
 
--- s
+-- s on each
 s_bytes : T (all 3 (λ q. all 256 (λ byte. same (pauli_in (s_byte q byte)) (conjugated 3 (S q) (pauli_in byte)))))
 unfolding image
 s_bytes = tt
 
--- sdg
+-- sdg on each
 sdg_bytes : T (all 3 (λ q. all 256 (λ byte. same (pauli_in (sdg_byte q byte)) (conjugated 3 (Sdg q) (pauli_in byte)))))
 unfolding image
 sdg_bytes = tt

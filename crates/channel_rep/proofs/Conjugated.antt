@@ -27,7 +27,7 @@ image-three n few (Cx control target) fits code l =
     (sym (crossed_code_is 3 control target code _ _ (omega arith) (omega (arith, fits.0)) (omega (arith, fits.1)) fits.2 l3 refl refl) ∙ crossed_code_is n control target code _ _ few fits.0 fits.1 fits.2 l refl refl)
     (sym (crossed_sign_is 3 control target code _ _ (omega arith) (omega (arith, fits.0)) (omega (arith, fits.1)) fits.2 l3 refl refl) ∙ crossed_sign_is n control target code _ _ few fits.0 fits.1 fits.2 l refl refl)
 
--- one gate more, at the end
+-- gates behind gates
 pub conjugated_by-append : (n : ℕ) (c d : List ChannelGate) (s : Signed) → conjugated_by n (c ++ d) s ≡ conjugated_by n d (conjugated_by n c s)
 conjugated_by-append n [] d s = refl
 conjugated_by-append n (g ∷ c) d s = conjugated_by-append n c d (conjugated n g s)

@@ -1,6 +1,6 @@
 // Conjugation by a run of Clifford gates. Each image is a byte: the code in its low six bits, and the sign in the next.
 // A letter's bits are (high, low), and X = (0, 1), Y = (1, 0), Z = (1, 1). A gate changes all images in one loop without
-// a branch, which vector instructions run.
+// a branch, for which the compiler has vector instructions.
 ghost use Rattle.std.specs.Prelude.{◌≡◌, ◌≢◌, ℕ, ◌/◌, ◌%◌, ◌*◌, ◌+◌, ◌^◌, ◌<◌, ◌≤◌, List, [], ◌∷◌, ◌++◌, slice_index};
 ghost use Rattle.channel_rep.specs.Gates.{Fits, positive};
 ghost use Rattle.channel_rep.specs.Conjugations.{pauli_in, conjugated};
@@ -142,7 +142,7 @@ impl Conjugation {
         self.n
     }
 
-    /// What it makes of a code, and whether with a negative sign.
+    /// What it makes of a Pauli: the code, and whether with a negative sign.
     pub fn image(&self, code: u8) -> (u8, bool)
         requires { code < 64 }
         ensures code { result.0 ≡ (image_of self.now code).code }

@@ -6,6 +6,9 @@
 //! the rows that commute with P by √2 and adds and subtracts the others in pairs (Gosset, Kliuchnikov, Mosca and Russo,
 //! An algorithm for the T-count, 2014, section 2.3).
 //!
+//! A run of Clifford gates is held as a `Conjugation`: what it makes of each Pauli, in 64 bytes. A gate more changes these
+//! bytes alone, and a channel takes the whole run in one pass over its rows.
+//!
 //! Each change says that the table becomes the product of the step's table with the one before, the sum over the middle
 //! index. No complex matrix occurs here.
 #![tactic(auto)]

@@ -12,8 +12,8 @@ use channel_rep::Channel;
 use std::alloc::{AllocError, Global};
 use tc_circuit::Circuit;
 
-/// The channel of a circuit's matrix, with the least exponent. It takes memory for that channel and
-/// for a second one, and passes over them once for each T gate.
+/// The channel of a circuit's matrix, with the least exponent. It takes memory for that channel and for a
+/// second one. Its time is a pass over all cells for each T gate, and a few nanoseconds for each Clifford gate.
 pub fn channel_of(alloc: Global, c: &Circuit) -> Result<Channel, AllocError>
     requires { t_count_of c.now.gates ≤ 44 }
     ensures qubits { IfOk result (λ m. m.qubits ≡ c.now.qubits) }
