@@ -1,4 +1,5 @@
 pub mod Words
+pub mod Packing
 pub mod Cosets
 pub mod Labels
 pub mod Tags

@@ -1,4 +1,6 @@
 //! Words of rotations, and labels of cosets of the Clifford group.
 #![tactic(auto)]
 
-pub mod laws;
+mod word;
+
+pub use word::Word;
