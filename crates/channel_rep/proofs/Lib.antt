@@ -9,3 +9,4 @@ pub mod Grids
 pub mod OneUnit
 pub mod OnePower
 pub mod Least
+pub mod Lines
