@@ -3,4 +3,5 @@ pub mod Packing
 pub mod Cosets
 pub mod Labels
 pub mod Tags
+pub mod Scratch
 pub mod Laws
