@@ -5,3 +5,8 @@ pub mod LeadRows
 pub mod RowOrder
 pub mod ColumnOrder
 pub mod ColumnList
+pub mod Horner
+pub mod ColumnSums
+pub mod KeptLabels
+pub mod SameLabels
+pub mod WordSteps

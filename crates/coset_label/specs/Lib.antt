@@ -4,4 +4,5 @@ pub mod Cosets
 pub mod Labels
 pub mod Tags
 pub mod Scratch
+pub mod Sums
 pub mod Laws

@@ -1,7 +1,8 @@
 -- What contracts see of a `Scratch`: the label that it holds. And how the label is kept: the channel's cells as they are,
 -- which column stands at each place, and which columns have their signs turned.
-use Rattle.std.specs.Prelude.{◌≡◌, ◌≢◌, ℕ, ◌^◌, ◌<◌, ◌≤◌, neg_ℤ, Bool, false, if◌then◌else◌, List, length, map, All, slice_index_or}
-use Rattle.tc_ring.specs.Surds.{zero_surd}
+use Rattle.std.specs.Prelude.{◌≡◌, ◌≢◌, ℕ, ◌^◌, ◌<◌, ◌≤◌, neg_ℤ, Bool, false, if◌then◌else◌, List, length, map, All, slice_index, slice_index_or}
+use Rattle.tc_ring.specs.Surds.{Surd, zero_surd}
+use Rattle.channel_rep.specs.Tables.{signed}
 use Rattle.channel_rep.specs.Cells.{ChannelGrid, table_of}
 use Rattle.coset_label.specs.Labels.{Column, Label, column_of, leads_negative, with_fixed_sign}
 
@@ -28,6 +29,11 @@ pub record IsKept (m : ChannelGrid) (negative : List Bool) (order : List ℕ) : 
   pub places : length order ≡ 4 ^ m.qubits
   pub below : All (λ column. column < 4 ^ m.qubits) order
 
+-- the same, and room for a lead row of each column
+pub record IsScratch (m : ChannelGrid) (leads : List ℕ) (negative : List Bool) (order : List ℕ) : Type 0 where
+  pub rows : length leads ≡ 4 ^ m.qubits
+  pub kept : IsKept m negative order
+
 -- the row of a column's first entry other than 0, or the number of rows, and whether its first number other than 0 is
 -- negative
 pub record IsLead (m : ChannelGrid) (column lead : ℕ) (negative : Bool) : Type 0 where
@@ -51,3 +57,8 @@ pub record KnowsLeads (m : ChannelGrid) (size : ℕ) (leads : List ℕ) (negativ
   pub places : length leads ≡ size
   pub signs : length negative ≡ size
   pub settled : AreLeads m leads negative
+
+-- the cell at a row and a place of the label
+abbrev pub placed_cell : ChannelGrid → List Bool → List ℕ → ℕ → ℕ → Surd
+placed_cell m negative order row place =
+    let column = slice_index order place in signed (slice_index_or negative column false) (table_of m row column)

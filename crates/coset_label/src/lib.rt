@@ -2,6 +2,10 @@
 #![tactic(auto)]
 
 mod columns;
+mod same;
+mod scratch;
+mod sums;
 mod word;
 
+pub use scratch::{Scratch, label_into, label_of_word, same_label, tag};
 pub use word::Word;
