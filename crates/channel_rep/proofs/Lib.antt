@@ -14,3 +14,4 @@ pub mod OneUnit
 pub mod OnePower
 pub mod Least
 pub mod Independent
+pub mod Lines

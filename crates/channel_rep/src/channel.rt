@@ -3,7 +3,8 @@ ghost use Rattle.std.specs.Prelude.{◌≡◌, ◌≢◌, ℕ, ◌+◌, ◌*◌,
 ghost use Rattle.ring_laws.specs.Matrix.{product, identity, Agree};
 ghost use Rattle.tc_ring.specs.Root2.{surd_of};
 ghost use Rattle.tc_ring.specs.Surds.{surds, SurdWithin, one_surd};
-ghost use Rattle.channel_rep.specs.Cells.{entries, cell_of};
+ghost use Rattle.channel_rep.specs.Cells.{entries, cell_of, RowWithin};
+ghost use Rattle.channel_rep.specs.Changes.{ChangesRow};
 ghost use Rattle.channel_rep.specs.Conjugations.{IsConjugationBy, MovesRows, gate_steps};
 ghost use Rattle.channel_rep.specs.Gates.{Fits};
 ghost use Rattle.channel_rep.specs.Tables.{Step, by_gate, by_rotation, by_inverse_rotation, gate_table, rotation_table, signed, ScaledTable, SameTable, IsBuiltOf};
@@ -42,6 +43,29 @@ fn identity_cells(alloc: Global, n: u8) -> Result<Vec<Root2>, AllocError>
         cells.push(identity_cell(place / size, place % size))?;
     }
     Ok(cells)
+}
+
+/// Makes one row of a table into that of the identity.
+fn write_identity_row(cells: &mut [Root2], size: usize, row: usize)
+    requires below { row < size }
+    requires whole { length cells.old ≡ size * size }
+    ensures whole { length cells.new ≡ size * size }
+    ensures row { ChangesRow size row (λ c. identity surds row c) cells.old cells.new }
+{
+    let line = &mut cells[row * size..(row + 1) * size];
+    line.fill(Root2 { a: 0, b: 0 });
+    line[row] = Root2 { a: 1, b: 0 };
+}
+
+/// Makes a table into the identity.
+fn write_identity(cells: &mut [Root2], size: usize)
+    requires whole { length cells.old ≡ size * size }
+    ensures whole { length cells.new ≡ size * size }
+    ensures identity { Agree surds size (entries size cells.new) (identity surds) }
+{
+    for row in 0..size {
+        write_identity_row(cells, size, row);
+    }
 }
 
 /// The channel of a unitary U on one to three qubits: a table of 4^n rows and columns whose entry at row P and column Q
@@ -88,6 +112,19 @@ impl Channel {
             grown: 0,
             cells,
         })
+    }
+
+    /// Makes the channel into the identity, in place.
+    pub fn make_identity(&mut self)
+        ensures qubits { self.new.qubits ≡ self.old.qubits }
+        ensures exponent { self.new.exponent ≡ 0 }
+        ensures grown { self.new.grown ≡ 0 }
+        ensures table { Agree surds (4 ^ self.old.qubits) (table_of self.new) (identity surds) }
+        ensures built { IsBuiltOf self.old.qubits [] (scaled self.new) }
+    {
+        write_identity(&mut self.cells, codes(self.n));
+        self.k = 0;
+        self.grown = 0;
     }
 
     /// Makes the channel into the gate's channel times it, in place.
@@ -183,6 +220,19 @@ impl Channel {
         ensures room { self.now.grown ≤ 62 }
     {
         cell_at(&self.cells, codes(self.n), row, col)
+    }
+
+    /// The cells of a row, before they are divided.
+    pub fn row(&self, row: usize) -> &[Root2]
+        requires { row < 4 ^ self.now.qubits }
+        ensures len { length result.now ≡ 4 ^ self.now.qubits }
+        ensures cells { (c : ℕ) → c < 4 ^ self.now.qubits
+            → cell_of result.now c ≡ table_of self.now row c }
+        ensures small { RowWithin (2 ^ self.now.grown) result.now }
+        ensures room { self.now.grown ≤ 62 }
+    {
+        let size = codes(self.n);
+        &self.cells[row * size..(row + 1) * size]
     }
 
     /// Makes the channel into another of as many qubits.

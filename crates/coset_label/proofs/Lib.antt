@@ -5,3 +5,15 @@ pub mod OneCoset
 pub mod OneLabel
 pub mod Permutations
 pub mod WordChannels
+pub mod Digits
+pub mod PackedWords
+pub mod TurnedColumns
+pub mod LeadRows
+pub mod RowOrder
+pub mod ColumnOrder
+pub mod ColumnList
+pub mod Horner
+pub mod ColumnSums
+pub mod KeptLabels
+pub mod SameLabels
+pub mod WordSteps

@@ -1,0 +1,155 @@
+// Labels of cosets, in room of their own.
+ghost use Rattle.std.specs.Prelude.{◌≡◌, ℕ, ◌^◌, ◌<◌, ◌≤◌, ◌↔◌, [], length, IsTrue, IfOk};
+ghost use Rattle.channel_rep.specs.Cells.{scaled, IsReduced};
+ghost use Rattle.channel_rep.specs.Tables.{IsBuiltOf};
+ghost use Rattle.coset_label.specs.Labels.{IsLabelOf, IsLabelOfWord};
+ghost use Rattle.coset_label.specs.Tags.{tag_of};
+ghost use Rattle.coset_label.specs.Scratch.{IsScratch, kept_label};
+ghost use Rattle.coset_label.specs.Words.{word_steps};
+
+use crate::Word;
+use crate::columns::{columns_of, find_leads, sort_columns};
+use crate::same::same_columns;
+use crate::sums::{label_fold, mixed};
+use channel_rep::Channel;
+use std::alloc::{AllocError, Global};
+use std::marker::Model;
+
+/// Room for one channel and its label, on one to three qubits. It holds a label at all times.
+///
+/// The label is kept by indexes: the channel's cells stay where they are, beside the order of the columns and their signs.
+#[derive(Drop)]
+pub struct Scratch {
+    channel: Channel,
+    leads: Vec<u8>,
+    negative: Vec<bool>,
+    order: Vec<u8>,
+}
+
+impl Model for Scratch {
+    ghost use Rattle.coset_label.specs.Scratch.{HeldLabel, IsScratch, kept_label};
+
+    ghost Value = { HeldLabel };
+
+    ghost view = { λ s. record { qubits = s.channel.qubits; label = kept_label s.channel s.negative.items s.order.items } };
+
+    ghost invariant = { λ s. IsScratch s.channel s.leads.items s.negative.items s.order.items };
+}
+
+/// Finds the signs and the order of a channel's columns.
+fn put_in_order(channel: &Channel, leads: &mut [u8], negative: &mut [bool], order: &mut [u8])
+    requires reduced { IsReduced channel.now }
+    requires leads { length leads.old ≡ 4 ^ channel.now.qubits }
+    requires signs { length negative.old ≡ 4 ^ channel.now.qubits }
+    requires places { length order.old ≡ 4 ^ channel.now.qubits }
+    ensures kept { IsScratch channel.now leads.new negative.new order.new }
+    ensures label { IsLabelOf channel.now.qubits (scaled channel.now)
+        (kept_label channel.now negative.new order.new) }
+{
+    let size = columns_of(channel.qubits());
+    find_leads(channel, size, leads, negative);
+    sort_columns(channel, size, leads, negative, order);
+}
+
+/// Makes the channel into that of a word, with the least exponent.
+fn make_channel(word: Word, channel: &mut Channel)
+    requires { word.qubits ≡ channel.old.qubits }
+    ensures qubits { channel.new.qubits ≡ channel.old.qubits }
+    ensures built { IsBuiltOf channel.old.qubits (word_steps word.letters) (scaled channel.new) }
+    ensures reduced { IsReduced channel.new }
+    ensures exponent { channel.new.exponent ≤ length word.letters }
+{
+    channel.make_identity();
+    let mut left = word.len();
+    while left > 0 {
+        left -= 1;
+        channel.left_rotation(word.letter(left));
+    }
+    channel.reduce();
+}
+
+impl Scratch {
+    /// Room for labels on n qubits. It holds that of the identity.
+    pub fn new(alloc: Global, n: u8) -> Result<Scratch, AllocError>
+        requires some { 0 < n }
+        requires few { n ≤ 3 }
+        ensures qubits { IfOk result (λ s. s.qubits ≡ n) }
+        ensures label { IfOk result (λ s. IsLabelOfWord n [] s.label) }
+    {
+        let size = columns_of(n);
+        let channel = Channel::identity(alloc, n)?;
+        let mut leads = vec![in alloc; 0u8; size]?;
+        let mut negative = vec![in alloc; false; size]?;
+        let mut order = vec![in alloc; 0u8; size]?;
+        put_in_order(&channel, &mut leads, &mut negative, &mut order);
+        Ok(Scratch {
+            channel,
+            leads,
+            negative,
+            order,
+        })
+    }
+
+    /// The number of qubits, 1 to 3.
+    pub fn qubits(&self) -> u8
+        ensures value { result ≡ self.now.qubits }
+        ensures some { 0 < result }
+        ensures few { result ≤ 3 }
+    {
+        self.channel.qubits()
+    }
+
+    /// The exponent of the label: the power of √2 by which every number of it is divided.
+    pub fn exponent(&self) -> u32
+        ensures value { result ≡ self.now.label.exponent }
+        ensures room { result ≤ 62 }
+    {
+        self.channel.exponent()
+    }
+}
+
+/// Makes `s` hold the label of a channel that has the least exponent.
+pub fn label_into(c: &Channel, s: &mut Scratch)
+    requires same { c.now.qubits ≡ s.old.qubits }
+    requires reduced { IsReduced c.now }
+    ensures qubits { s.new.qubits ≡ s.old.qubits }
+    ensures label { IsLabelOf c.now.qubits (scaled c.now) s.new.label }
+{
+    s.channel.copy_from(c);
+    put_in_order(&s.channel, &mut s.leads, &mut s.negative, &mut s.order);
+}
+
+/// Makes `s` hold the label of a word's product.
+pub fn label_of_word(w: Word, s: &mut Scratch)
+    requires { w.qubits ≡ s.old.qubits }
+    ensures qubits { s.new.qubits ≡ s.old.qubits }
+    ensures label { IsLabelOfWord w.qubits w.letters s.new.label }
+    ensures exponent { s.new.label.exponent ≤ length w.letters }
+{
+    make_channel(w, &mut s.channel);
+    put_in_order(&s.channel, &mut s.leads, &mut s.negative, &mut s.order);
+}
+
+/// Whether two labels are equal.
+pub fn same_label(a: &Scratch, b: &Scratch) -> bool
+    requires { a.now.qubits ≡ b.now.qubits }
+    ensures { IsTrue result ↔ (a.now.label ≡ b.now.label) }
+{
+    a.channel.exponent() == b.channel.exponent()
+        && same_columns(
+            &a.channel,
+            &a.negative,
+            &a.order,
+            &b.channel,
+            &b.negative,
+            &b.order,
+        )
+}
+
+/// The tag of a label, a number of 38 bits: equal labels have equal tags, and others mostly don't.
+pub fn tag(s: &Scratch) -> u64
+    ensures value { result ≡ tag_of s.now.label }
+    ensures low { result < 2 ^ 38 }
+{
+    mixed(label_fold(&s.channel, &s.negative, &s.order))
+}
