@@ -1,13 +1,14 @@
 -- What holds of a seat.
-use Rattle.std.specs.Prelude.{◌≡◌, ℕ, ◌+◌, ◌<◌, ◌≤◌, List, map, Option, IfNone, true, false, sum_by, vec_len, vec_capacity}
+use Rattle.std.specs.Prelude.{◌≡◌, ℕ, ◌+◌, ◌<◌, ◌≤◌, List, map, Option, IfSome, IfNone, true, false, sum_by, vec_len, vec_capacity}
 use Rattle.crossbeam_deque.specs.Handles.{worker_view, worker_deque, worker_flavor}
 use Rattle.work_shares.specs.declared.entry.View.{View}
 use Rattle.work_shares.specs.declared.entry.Entry.{Entry}
+use Rattle.work_shares.specs.declared.entry.Entry.TheVariants.{End}
 use Rattle.work_shares.specs.declared.seat.Seat.{Seat}
 use Rattle.work_shares.specs.Cuts.{block_count}
 use Rattle.work_shares.specs.Blocks.{extents_of}
 use Rattle.work_shares.specs.Entries.{ends, blocks_left, weight_of, entries_of}
-use Rattle.work_shares.specs.Gives.{Gives}
+use Rattle.work_shares.specs.Gives.{Gives, weighed, given}
 use Rattle.work_shares.specs.Thefts.{deque_into, pushed_into, got_by, left_into, entries_after}
 use Rattle.work_shares.specs.Places.{Place}
 
@@ -24,6 +25,10 @@ place_of_seat s = record {
   deque = worker_deque s.own;
   others = map deque_into s.thefts.items;
 }
+
+-- how many blocks the deal has
+abbrev pub count_of : Seat → ℕ
+count_of s = block_count s.cut.total s.cut.size
 
 -- how many blocks the seat may still be given
 unfoldable pub seat_left : Seat → ℕ
@@ -48,14 +53,29 @@ pub record TakesOwn (number : Option ℕ) (old new : Seat) : Type 0 where
   pub marked : IsMarked new
   pub over : IfNone number (new.over ≡ true)
 
--- the seat stands in a deal, its deques were given what is theirs, and what it got is what it noted
-pub record IsSeated (s : Seat) : Type 0 where
+-- the seat stands in a deal, and its deques were given what is theirs
+pub record IsStanding (s : Seat) : Type 0 where
   pub worker : s.worker < s.workers
   pub few : s.workers ≤ 8
   pub front : worker_flavor s.own ≡ 0
   pub parts : (own_view s).parts + s.workers ≡ 9
-  pub own : (own_view s).pushed ≡ entries_of (block_count s.cut.total s.cut.size) s.workers s.worker
-  pub others : map pushed_into s.thefts.items ≡ entries_after (block_count s.cut.total s.cut.size) s.workers s.worker
+  pub own : (own_view s).pushed ≡ entries_of (count_of s) s.workers s.worker
+  pub others : map pushed_into s.thefts.items ≡ entries_after (count_of s) s.workers s.worker
   pub marked : IsMarked s
+
+-- besides, what it got is what it noted, and there is room to note what it may still be given
+pub record IsSeated (s : Seat) : Type 0 where
+  pub stands : IsStanding s
   pub noted : (weight : ℕ × ℕ → ℕ) → sum_by weight (extents_of s.noted.items) ≡ seat_got (weight_of weight s.cut.total s.cut.size) s
   pub room : seat_left s + vec_len s.noted ≤ vec_capacity s.noted
+
+-- the seat got the block of the number, which is not noted yet, or none and is over
+pub record Takes (number : Option ℕ) (old new : Seat) : Type 0 where
+  pub stands : IsStanding new
+  pub place : place_of_seat new ≡ place_of_seat old
+  pub noted : new.noted ≡ old.noted
+  pub ended : new.ended ≡ old.ended
+  pub over : IfNone number (new.over ≡ true)
+  pub below : IfSome number (λ n. n < count_of old)
+  pub got : (weight : Entry → ℕ) → weight End ≡ 0 → seat_got weight new ≡ seat_got weight old + weighed weight number
+  pub left : seat_left new + given number ≡ seat_left old

@@ -42,4 +42,4 @@ pub record Steals (number : Option ℕ) (old new : List Theft) : Type 0 where
   pub pushed : map pushed_into new ≡ map pushed_into old
   pub got : (weight : Entry → ℕ) → weight End ≡ 0 → sum_by (got_by weight) new ≡ sum_by (got_by weight) old + weighed weight number
   pub left : sum_by left_into new + given number ≡ sum_by left_into old
-  pub known : IfSome number (λ n. Any (λ t. Contains (pushed_into t) (Work n)) old)
+  pub known : IfSome number (λ n. Any (λ pushed. Contains pushed (Work n)) (map pushed_into old))

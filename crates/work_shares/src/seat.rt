@@ -39,11 +39,11 @@ fn steal_round(thefts: &mut Vec<Theft>) -> Option<u32>
 }
 
 impl Seat {
-    ghost use Rattle.work_shares.specs.Seats.{IsSeated, TakesOwn, place_of_seat, seat_left};
+    ghost use Rattle.work_shares.specs.Seats.{IsSeated, IsStanding, Takes, TakesOwn, place_of_seat, seat_left};
 
     // The number of the next block of its own deque, if there is one.
     fn take_own(&mut self) -> Option<u32>
-        requires { IsSeated self.old }
+        requires { IsStanding self.old }
         ensures { TakesOwn result self.old self.new }
     {
         if self.over {
@@ -70,6 +70,17 @@ impl Seat {
         }
     }
 
+    // The number of a block, if its own deque has one or if two rounds of tries get one.
+    fn take(&mut self) -> Option<u32>
+        requires { IsStanding self.old }
+        ensures { Takes result self.old self.new }
+    {
+        match self.take_own() {
+            Some(number) => Some(number),
+            None => self.steal(),
+        }
+    }
+
     /// A block that no other seat is given. `None` only once its own end mark was taken.
     pub fn next(&mut self) -> Option<Block>
         requires { IsSeated self.old }
@@ -81,11 +92,7 @@ impl Seat {
         ensures fewer { IfSome result (λ _. seat_left self.new < seat_left self.old) }
         ensures none { IfNone result (self.new.noted.items ≡ self.old.noted.items) }
     {
-        let taken = match self.take_own() {
-            Some(number) => Some(number),
-            None => self.steal(),
-        };
-        match taken {
+        match self.take() {
             Some(number) => {
                 let block = self.cut.block(number);
                 self.noted.push_reserved(block);
