@@ -5,3 +5,4 @@ pub mod Takings
 pub mod Rounds
 pub mod Pushes
 pub mod Moves
+pub mod Kept
