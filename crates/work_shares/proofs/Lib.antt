@@ -6,3 +6,4 @@ pub mod Rounds
 pub mod Pushes
 pub mod Moves
 pub mod Kept
+pub mod Cover
