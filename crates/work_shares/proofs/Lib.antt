@@ -7,3 +7,6 @@ pub mod Pushes
 pub mod Moves
 pub mod Kept
 pub mod Cover
+pub mod Indexes
+pub mod TakingBack
+pub mod AllBack

@@ -6,4 +6,6 @@ pub mod Gives
 pub mod Thefts
 pub mod Seats
 pub mod Places
+pub mod Ways
+pub mod Owners
 pub mod Shares
