@@ -10,3 +10,5 @@ pub mod Cover
 pub mod Indexes
 pub mod TakingBack
 pub mod AllBack
+pub mod Counts
+pub mod Permuted

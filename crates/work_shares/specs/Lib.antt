@@ -8,4 +8,5 @@ pub mod Seats
 pub mod Places
 pub mod Ways
 pub mod Owners
+pub mod Parts
 pub mod Shares

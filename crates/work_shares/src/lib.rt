@@ -13,6 +13,7 @@ mod dealing;
 mod deque;
 mod entry;
 mod law;
+mod parts;
 mod returns;
 mod seat;
 mod settling;
