@@ -12,3 +12,5 @@ pub mod TakingBack
 pub mod AllBack
 pub mod Counts
 pub mod Permuted
+pub mod Parting
+pub mod Ties

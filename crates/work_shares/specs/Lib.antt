@@ -10,3 +10,4 @@ pub mod Ways
 pub mod Owners
 pub mod Parts
 pub mod Shares
+pub mod Apart

@@ -1,5 +1,5 @@
 -- Parts of shares, as lists.
-use Rattle.std.specs.Prelude.{◌≡◌, ℕ, ◌+◌, ◌≤◌, List, [], ◌∷◌, ◌++◌, vec_len, vec_capacity}
+use Rattle.std.specs.Prelude.{◌≡◌, ℕ, ◌+◌, ◌≤◌, List, [], ◌∷◌, ◌++◌, length, vec_len, vec_capacity}
 use Rattle.work_shares.specs.declared.seat.Seat.{Seat}
 use Rattle.work_shares.specs.declared.parts.Parts.{Parts}
 
@@ -12,10 +12,10 @@ module _ {L : Type 0} where
     pub loads : vec_len parts.loads + n ≤ vec_capacity parts.loads
 
   pub record IsEmpty (parts : Parts L) : Type 0 where
-    pub owners : vec_len parts.owners ≡ 0
-    pub thefts : vec_len parts.thefts ≡ 0
-    pub notes : vec_len parts.notes ≡ 0
-    pub loads : vec_len parts.loads ≡ 0
+    pub owners : length parts.owners.items ≡ 0
+    pub thefts : length parts.thefts.items ≡ 0
+    pub notes : length parts.notes.items ≡ 0
+    pub loads : length parts.loads.items ≡ 0
 
   -- the parts of one share joined the lists
   pub record Gains (load : L) (seat : Seat) (old new : Parts L) : Type 0 where
