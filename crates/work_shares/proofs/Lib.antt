@@ -16,3 +16,4 @@ pub mod Parting
 pub mod Full
 pub mod Ties
 pub mod Settles
+pub mod Steps

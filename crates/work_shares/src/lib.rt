@@ -12,6 +12,7 @@ mod block;
 mod dealing;
 mod deque;
 mod entry;
+mod filling;
 mod law;
 mod parts;
 mod returns;
