@@ -17,3 +17,4 @@ pub mod Full
 pub mod Ties
 pub mod Settles
 pub mod Steps
+pub mod Pushing

@@ -14,6 +14,7 @@ mod deque;
 mod entry;
 mod filling;
 mod law;
+mod lending;
 mod parts;
 mod returns;
 mod seat;
