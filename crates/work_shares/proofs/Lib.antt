@@ -18,3 +18,4 @@ pub mod Ties
 pub mod Settles
 pub mod Steps
 pub mod Pushing
+pub mod LendingOne
