@@ -19,3 +19,4 @@ pub mod Settles
 pub mod Steps
 pub mod Pushing
 pub mod LendingOne
+pub mod LendingAll
