@@ -20,3 +20,4 @@ pub mod Steps
 pub mod Pushing
 pub mod LendingOne
 pub mod LendingAll
+pub mod Rotated

@@ -4,7 +4,7 @@ use Rattle.std.specs.List.{range_with_len}
 use Rattle.std.specs.declared.alloc.Global.{Global}
 use Rattle.work_shares.specs.declared.entry.Entry.{Entry}
 use Rattle.work_shares.specs.declared.theft.Theft.{Theft}
-use Rattle.work_shares.specs.Thefts.{deque_into, view_into, pushed_into}
+use Rattle.work_shares.specs.Thefts.{deque_into, view_into, pushed_into, entries_after}
 use Rattle.work_shares.specs.Ways.{ways_of, ways_from}
 use Rattle.work_shares.specs.Owners.{Owner, deque_of, parts_of, pushed_of, LeadOn, IsUntaken}
 
@@ -46,3 +46,8 @@ pub record LendsAll (n : ℕ) (thefts : List (Vec Theft Global)) (old new : List
   pub count : length thefts ≡ n
   pub ways : (worker : ℕ) (own : Vec Theft Global) → slice_get thefts worker ≡ Some own → AreWays worker (length old - 1) own.items old
   pub lender : IsLender (λ d. ways_from (length old) d 0 (replicate n (length old - 1))) old new
+
+-- the ways of a worker lead into deques that were given what is theirs, and nothing was stolen
+pub record AreGiven (count workers worker : ℕ) (thefts : List Theft) : Type 0 where
+  pub given : map pushed_into thefts ≡ entries_after count workers worker
+  pub unused : All IsUnused thefts

@@ -38,6 +38,17 @@ pub record IsFilled (count workers worker : ℕ) (owner : Owner) : Type 0 where
   pub pushed : pushed_of owner ≡ entries_of count workers worker
   pub whole : parts_of owner ≡ all_parts
 
+-- the same of the first workers, in order
+pub record AreFilled (count workers n : ℕ) (owners : List Owner) : Type 0 where
+  pub length_is : length owners ≡ n
+  pub each : (worker : ℕ) (owner : Owner) → slice_get owners worker ≡ Some owner → IsFilled count workers worker owner
+
+-- the deque was given what is its worker's, nothing was taken, and each other worker has a part
+pub record IsReady (count workers worker : ℕ) (owner : Owner) : Type 0 where
+  pub untaken : IsUntaken owner
+  pub pushed : pushed_of owner ≡ entries_of count workers worker
+  pub parts : parts_of owner + workers ≡ 9
+
 -- the thefts of a worker lead into the deques of the workers after it, counted round
 abbrev pub LeadOn : List DequeId → ℕ → List Theft → Type 0
 LeadOn deques worker thefts = (i : ℕ) (d : DequeId) → slice_get (map deque_into thefts) i ≡ Some d → slice_get deques ((worker + 1 + i) % length deques) ≡ Some d

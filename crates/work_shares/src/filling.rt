@@ -5,7 +5,7 @@ ghost use Rattle.work_shares.specs.declared.entry.Entry.TheVariants.{Work, End};
 ghost use Rattle.work_shares.specs.Cuts.{numbers_of};
 ghost use Rattle.work_shares.specs.Entries.{view};
 ghost use Rattle.work_shares.specs.Rule.{all_parts};
-ghost use Rattle.work_shares.specs.Owners.{IsFilled};
+ghost use Rattle.work_shares.specs.Owners.{IsFilled, AreFilled};
 
 use crate::deque::{Owner, empty, push};
 use crate::entry::Entry;
@@ -55,4 +55,17 @@ pub fn filled(
     push_numbers(&mut owner, count, workers, worker);
     push_ends(&mut owner, workers);
     Ok(owner)
+}
+
+/// The deques of all workers, in order.
+pub fn filled_all(alloc: Global, count: u32, workers: u32) -> Result<Vec<Owner>, AllocError>
+    requires few { count ≤ 2 ^ 24 }
+    requires workers { workers ≤ 8 }
+    ensures { IfOk result (λ owners. AreFilled count workers workers owners.items) }
+{
+    let mut owners = Vec::with_capacity(alloc, workers as usize)?;
+    for worker in 0..workers {
+        owners.push_reserved(filled(alloc, count, workers, worker)?);
+    }
+    Ok(owners)
 }
