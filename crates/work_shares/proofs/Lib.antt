@@ -21,3 +21,4 @@ pub mod Pushing
 pub mod LendingOne
 pub mod LendingAll
 pub mod Rotated
+pub mod Fresh

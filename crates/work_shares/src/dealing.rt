@@ -4,6 +4,7 @@ ghost use Rattle.work_shares.specs.Cuts.{block_count};
 ghost use Rattle.work_shares.specs.Thefts.{deque_into};
 ghost use Rattle.work_shares.specs.Owners.{deque_of, IsReady, LeadAllOn};
 ghost use Rattle.work_shares.specs.Lending.{AreGiven};
+ghost use Rattle.work_shares.specs.Parts.{IsEmpty, HasRoom};
 ghost use Rattle.work_shares.specs.Shares.{place_of, AreDeal, IsFresh, load_of};
 
 use crate::block::Cut;
@@ -16,7 +17,19 @@ use crate::share::Share;
 use crate::theft::Theft;
 use std::alloc::{AllocError, Global};
 
-// A worker's share, with room to note every block; the first one has the room to take the deal apart.
+// Room to take a deal apart, at the first worker.
+fn room_at<L>(alloc: Global, workers: u32, worker: u32) -> Result<Parts<L>, AllocError>
+    ensures empty { IfOk result IsEmpty }
+    ensures room { IfOk result (λ parts. worker ≡ 0 → HasRoom workers parts) }
+{
+    if worker == 0 {
+        Parts::with_room(alloc, workers as usize)
+    } else {
+        Parts::with_room(alloc, 0)
+    }
+}
+
+// A worker's share, with room to note every block.
 fn share_at<L: Drop>(
     alloc: Global,
     cut: Cut,
@@ -33,7 +46,8 @@ fn share_at<L: Drop>(
     ensures fresh { IfOk result IsFresh }
     ensures load { IfOk result (λ share. share.load ≡ load) }
 {
-    let room = if worker == 0 { workers } else { 0 };
+    let noted = Vec::with_capacity(alloc, cut.count() as usize)?;
+    let room = room_at(alloc, workers, worker)?;
     Ok(Share {
         load,
         seat: Seat {
@@ -42,11 +56,11 @@ fn share_at<L: Drop>(
             worker,
             own,
             thefts,
-            noted: Vec::with_capacity(alloc, cut.count() as usize)?,
+            noted,
             over: false,
             ended: false,
         },
-        room: Parts::with_room(alloc, room as usize)?,
+        room,
     })
 }
 
