@@ -22,3 +22,4 @@ pub mod LendingOne
 pub mod LendingAll
 pub mod Rotated
 pub mod Fresh
+pub mod Handing

@@ -65,7 +65,8 @@ pub fn filled_all(alloc: Global, count: u32, workers: u32) -> Result<Vec<Owner>,
 {
     let mut owners = Vec::with_capacity(alloc, workers as usize)?;
     for worker in 0..workers {
-        owners.push_reserved(filled(alloc, count, workers, worker)?);
+        let owner = filled(alloc, count, workers, worker)?;
+        owners.push_reserved(owner);
     }
     Ok(owners)
 }
