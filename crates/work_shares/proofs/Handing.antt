@@ -1,5 +1,5 @@
 -- Shares are made one by one.
-use Rattle.std.proofs.Common.{◌≡◌, ℕ, zero, suc, ◌+◌, ◌-◌, ◌%◌, ◌<◌, ◌≤◌, ◌⊎◌, ⊎_elim, List, Vec, Global, [], ◌∷◌, ◌++◌, Some, All, map, get_or, length, length-append, remove, slice_get, refl, sym, ap, ◌∙◌, subst, append_assoc, append-nil, arith}
+use Rattle.std.proofs.Common.{◌≡◌, ℕ, zero, suc, ◌+◌, ◌-◌, ◌%◌, ◌<◌, ◌≤◌, ◌⊎◌, ⊎_elim, List, Vec, Global, [], ◌∷◌, ◌++◌, Some, All, map, get_or, length, length-append, remove, slice_get, refl, sym, ap, ◌∙◌, subst, append_assoc, append-nil, zero-add, arith}
 use Rattle.std.proofs.lemmas.List.{length-map, map-append, nil_from_length}
 use Rattle.std.proofs.lemmas.List.Elements.{All-push, All-nil}
 use Rattle.work_shares.specs.declared.theft.Theft.{Theft}
@@ -54,6 +54,24 @@ module _ {L : Type 0} (total size count workers : ℕ) (deques : List DequeId) (
     pub made : length shares ≡ n
     pub fresh : All IsFresh shares
     pub places : (k : ℕ) (s : Share L) → slice_get shares k ≡ Some s → IsPlaced total size workers k deques s
+
+  -- before the first
+  pub sharing_starts : (owners : List Owner) (thefts : List (Vec Theft Global)) (shares : List (Share L)) → shares ≡ [] → deques ≡ map deque_of owners → length owners ≡ workers → length thefts ≡ workers → length all ≡ workers
+      → ((k : ℕ) (o : Owner) → slice_get owners k ≡ Some o → IsReady count workers k o) → ((k : ℕ) (own : Vec Theft Global) → slice_get thefts k ≡ Some own → AreGiven count workers k own.items)
+      → ((k : ℕ) (own : Vec Theft Global) → slice_get thefts k ≡ Some own → LeadOn deques k own.items) → IsSharing 0 owners thefts all shares
+  sharing_starts owners thefts shares none is a b c ready given lead = subst (IsSharing 0 owners thefts all) (sym none) (record {
+    owners_left = omega arith;
+    thefts_left = omega arith;
+    loads_left = omega arith;
+    ready = λ k o e. subst (λ (j : ℕ). IsReady count workers j o) (sym (zero-add k)) (ready k o e);
+    given = λ k v e. subst (λ (j : ℕ). AreGiven count workers j v.items) (sym (zero-add k)) (given k v e);
+    lead = λ k v e. subst (λ (j : ℕ). LeadOn deques j v.items) (sym (zero-add k)) (lead k v e);
+    deques_are = sym is;
+    loads_are = refl;
+    made = refl;
+    fresh = All-nil IsFresh;
+    places = λ k s e. absurd cc;
+  })
 
   -- what is made of the first of each
   pub record IsMade (worker : ℕ) (own : Owner) (thefts : Vec Theft Global) (load : L) (s : Share L) : Type 0 where

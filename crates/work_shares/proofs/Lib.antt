@@ -23,3 +23,4 @@ pub mod LendingAll
 pub mod Rotated
 pub mod Fresh
 pub mod Handing
+pub mod Ready
