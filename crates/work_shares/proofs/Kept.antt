@@ -1,7 +1,7 @@
 -- What keeps a deal together.
-use Rattle.std.proofs.Common.{◌≡◌, ℕ, zero, suc, ◌+◌, ◌<◌, List, [], ◌∷◌, map, length, slice_index_or, refl, sym, ap, ◌∙◌, subst, arith}
+use Rattle.std.proofs.Common.{◌≡◌, ℕ, suc, ◌<◌, List, [], ◌∷◌, map, length, slice_index_or, refl, sym, ap, ◌∙◌, subst, arith}
 use Rattle.work_shares.specs.declared.share.Share.{Share}
-use Rattle.work_shares.specs.Places.{Place, ArePlaces}
+use Rattle.work_shares.specs.Places.{ArePlaces}
 use Rattle.work_shares.specs.Shares.{place_of, AreDeal}
 
 -- lists of one length whose elements are the same to f at each place

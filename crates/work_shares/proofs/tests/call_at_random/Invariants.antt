@@ -1,5 +1,4 @@
 use Rattle.std.proofs.Common.{◌≡◌, ℕ, map, vec_len}
-use Rattle.work_shares.specs.declared.share.Share.{Share}
 use Rattle.work_shares.specs.Shares.{place_of}
 use Rattle.work_shares.proofs.tests.call_at_random.Given as goal
 

@@ -9,8 +9,7 @@ pub loop-i-preserved : goal.loop-i-preserved
 loop-i-preserved c =
     let shares = c.loop-i.shares.items in
     let i = c.loop-i.invariant in
-    let lt : c.loop-i.i < length shares = search rules in
-    (
+    let lt : c.loop-i.i < length shares = search rules in (
       map-set_same (place_of {L = ℕ}) shares c.loop-i.i c.finish.new.share c.index_mut.result.now (c.finish.ensures.place ∙ ap place_of c.index_mut.ensures.value) ∙ i.0,
       i.1,
       AllWithin-more_set shares c.loop-i.i c.finish.new.share lt (λ (s : Share ℕ). is_ended s ≡ true) i.2 c.finish.ensures.ended,
