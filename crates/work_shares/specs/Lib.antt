@@ -1,0 +1,14 @@
+pub mod Cuts
+pub mod Blocks
+pub mod Entries
+pub mod Rule
+pub mod Gives
+pub mod Thefts
+pub mod Seats
+pub mod Places
+pub mod Ways
+pub mod Owners
+pub mod Parts
+pub mod Lending
+pub mod Shares
+pub mod Apart
