@@ -1,0 +1,2 @@
+pub mod BestRule
+pub mod Seats
