@@ -57,8 +57,8 @@ puts slots id p me live s h _ at _ =
     let n : ℕ = min x p in
     let w : Known = known me.0.parts n (p ∷ me.0.put) in
     let source : WasPut (set s.views id w) n = dite (dec_le x p)
-        (λ le. let e : n ≡ x = omega arith in subst (WasPut (set s.views id w)) (sym e) (put_set s.views id me.0 w x at (put_later p x me.0.put) h.source))
-        (λ more. let lt = lt_of_not-le more in let e : p ≡ n = omega arith in inr (id, w, set_here s.views id w (found_at s.views id me.0 at).0, subst (Contains w.put) e (put_first p me.0.put))) in
+    (λ le. let e : n ≡ x = omega arith in subst (WasPut (set s.views id w)) (sym e) (put_set s.views id me.0 w x at (put_later p x me.0.put) h.source))
+    (λ more. let lt = lt_of_not-le more in let e : p ≡ n = omega arith in inr (id, w, set_here s.views id w (found_at s.views id me.0 at).0, subst (Contains w.put) e (put_first p me.0.put))) in
     (w, keeps, tt, falls_to s id n me.0 w me.1 h at (omega arith) (omega arith) refl live source, (refl, (h.bounds id me.0 at).least live, refl))
 
 -- a split keeps the rule
@@ -84,14 +84,14 @@ source_joined views id other v w b z x two at at' both s =
     let vs : List Known = set views id b in
     let here : get_elem? (set vs other z) id ≡ some b = set_else vs other id z (λ e. two (sym e)) ∙ set_here views id b (found_at views id v at).0 in
     ⊎_elim (λ e. inl e)
-        (λ (o : (seat : ℕ) × (u : Known) × (get_elem? views seat ≡ some u) × Contains u.put x). dite (ℕ_discrete o.0 id)
-            (λ e. let is : v ≡ o.1 = some-injective v o.1 (sym at ∙ ap (λ (k : ℕ). get_elem? views k) (sym e) ∙ o.2) in
-                inr (id, b, here, subst (λ (l : List ℕ). Contains l x) (sym both) (Contains-append_left v.put w.put x (subst (λ (u : Known). Contains u.put x) (sym is) o.3))))
-            (λ ne. dite (ℕ_discrete o.0 other)
-                (λ e. let is : w ≡ o.1 = some-injective w o.1 (sym at' ∙ ap (λ (k : ℕ). get_elem? views k) (sym e) ∙ o.2) in
-                    inr (id, b, here, subst (λ (l : List ℕ). Contains l x) (sym both) (Contains-append_right v.put w.put x (subst (λ (u : Known). Contains u.put x) (sym is) o.3))))
-                (λ ne'. inr (o.0, o.1, set_else vs other o.0 z ne' ∙ set_else views id o.0 b ne ∙ o.2, o.3))))
-        s
+    (λ (o : (seat : ℕ) × (u : Known) × (get_elem? views seat ≡ some u) × Contains u.put x). dite (ℕ_discrete o.0 id)
+    (λ e. let is : v ≡ o.1 = some-injective v o.1 (sym at ∙ ap (λ (k : ℕ). get_elem? views k) (sym e) ∙ o.2) in
+    inr (id, b, here, subst (λ (l : List ℕ). Contains l x) (sym both) (Contains-append_left v.put w.put x (subst (λ (u : Known). Contains u.put x) (sym is) o.3))))
+    (λ ne. dite (ℕ_discrete o.0 other)
+    (λ e. let is : w ≡ o.1 = some-injective w o.1 (sym at' ∙ ap (λ (k : ℕ). get_elem? views k) (sym e) ∙ o.2) in
+    inr (id, b, here, subst (λ (l : List ℕ). Contains l x) (sym both) (Contains-append_right v.put w.put x (subst (λ (u : Known). Contains u.put x) (sym is) o.3))))
+    (λ ne'. inr (o.0, o.1, set_else vs other o.0 z ne' ∙ set_else views id o.0 b ne ∙ o.2, o.3))))
+    s
 
 -- a join keeps the rule
 pub joins : (id other : ℕ) (v w : Known) → 0 < v.parts → 0 < w.parts → Joins Leads id v other w (known (v.parts + w.parts) (min v.least w.least) (v.put ++ w.put)) (known 0 none_yet [])
@@ -119,14 +119,14 @@ closes s id v h at all =
       (h.bounds id v at).least (omega arith),
       ⊎_elim (λ e. inl e)
           (λ (o : (seat : ℕ) × (u : Known) × (get_elem? s.views seat ≡ some u) × Contains u.put x). dite (ℕ_discrete o.0 id)
-              (λ e. let is : v ≡ o.1 = some-injective v o.1 (sym at ∙ ap (λ (k : ℕ). get_elem? s.views k) (sym e) ∙ o.2) in inr (subst (λ (u : Known). Contains u.put x) (sym is) o.3))
-              (λ ne. let m = parts_two s.views o.0 id o.1 v ne o.2 at in let p = h.parts in
-                  let empty = (h.bounds o.0 o.1 o.2).spent (omega arith) in absurd (not_empty x o.1.put empty o.3)))
+          (λ e. let is : v ≡ o.1 = some-injective v o.1 (sym at ∙ ap (λ (k : ℕ). get_elem? s.views k) (sym e) ∙ o.2) in inr (subst (λ (u : Known). Contains u.put x) (sym is) o.3))
+          (λ ne. let m = parts_two s.views o.0 id o.1 v ne o.2 at in let p = h.parts in
+          let empty = (h.bounds o.0 o.1 o.2).spent (omega arith) in absurd (not_empty x o.1.put empty o.3)))
           h.source,
     )
   where
-  not_empty : (x : ℕ) (l : List ℕ) → l ≡ [] → Contains l x → ⊥
-  not_empty x l e h = let n = h.1 in omega (arith, ap (λ (m : List ℕ). length m) e)
+    not_empty : (x : ℕ) (l : List ℕ) → l ≡ [] → Contains l x → ⊥
+    not_empty x l e h = let n = h.1 in omega (arith, ap (λ (m : List ℕ). length m) e)
 
 -- the first word, where one is read
 pub read_first : (ws : List ℕ) (x : ℕ) → get_elem? ws 0 ≡ some x → get_or ws 0 0 ≡ x

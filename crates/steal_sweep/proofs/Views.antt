@@ -55,9 +55,9 @@ bounds_fall x n v le b = record { least = λ live. (let l = b.least live in omeg
 pub put_set : (views : List Known) (i : ℕ) (v w : Known) (x : ℕ) → get_elem? views i ≡ some v → (Contains v.put x → Contains w.put x) → WasPut views x → WasPut (set views i w) x
 put_set views i v w x at more s = ⊎_elim (λ e. inl e)
     (λ (o : (seat : ℕ) × (u : Known) × (get_elem? views seat ≡ some u) × Contains u.put x). dite (ℕ_discrete o.0 i)
-        (λ e. let is : v ≡ o.1 = some-injective v o.1 (sym at ∙ ap (λ (k : ℕ). get_elem? views k) (sym e) ∙ o.2) in
-            inr (i, w, set_here views i w (found_at views i v at).0, more (subst (λ (u : Known). Contains u.put x) (sym is) o.3)))
-        (λ ne. inr (o.0, o.1, set_else views i o.0 w ne ∙ o.2, o.3)))
+    (λ e. let is : v ≡ o.1 = some-injective v o.1 (sym at ∙ ap (λ (k : ℕ). get_elem? views k) (sym e) ∙ o.2) in
+    inr (i, w, set_here views i w (found_at views i v at).0, more (subst (λ (u : Known). Contains u.put x) (sym is) o.3)))
+    (λ ne. inr (o.0, o.1, set_else views i o.0 w ne ∙ o.2, o.3)))
     s
 
 -- a word that was put stays so, where a view was added

@@ -1,2 +1,4 @@
 pub mod BestRule
+pub mod Searches
 pub mod Seats
+pub mod Tests

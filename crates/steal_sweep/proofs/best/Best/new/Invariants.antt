@@ -10,5 +10,5 @@ invariant-loop l = record {
   first_seat : IsSeatOf l.best l.first;
   first_new : (known_by l.first).put ≡ [];
   first_parts : (known_by l.first).parts + l.counter ≡ 9;
-  count : length l.all.items + 1 ≡ l.counter
+  count : length l.all.items + 1 ≡ l.counter;
 }
