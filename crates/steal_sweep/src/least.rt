@@ -1,10 +1,16 @@
 // The least hit of a sweep.
-ghost use Rattle.std.specs.Prelude.{◌≡◌, ℕ, ◌<◌, ◌≤◌, Bool, length, All, sum_by};
-ghost use Rattle.steal_sweep.specs.Searches.{IsHit};
-ghost use Rattle.steal_sweep.specs.Seats.{IsSeatOf, known_by};
+ghost use Rattle.std.specs.Prelude.{◌≡◌, ℕ, ◌<◌, ◌≤◌, Bool, true, false, length, All, map, sum_by, IfSome, IfNone};
+ghost use Rattle.work_shares.specs.Shares.{AreDeal, IsFresh};
+ghost use Rattle.steal_sweep.specs.Searches.{IsHit, IsLeastHit};
+ghost use Rattle.steal_sweep.specs.Seats.{IsSeatOf, AreNewSeatsOf, known_by};
 
 use crate::best::{Best, BestSeat};
-use crate::search::Seeker;
+use crate::each::for_each;
+use crate::search::{Search, Seeker};
+use crate::sweep::{Local, Sweep, Test};
+use crate::turnstile::Turnstile;
+use std::thread::Threads;
+use work_shares::{Share, settle};
 
 /// One seat that knows what all seekers' seats know. Their locals are dropped.
 fn join_seats<L: Drop>(best: &Best, mut seekers: Vec<Seeker<L>>) -> BestSeat
@@ -26,4 +32,34 @@ fn join_seats<L: Drop>(best: &Best, mut seekers: Vec<Seeker<L>>) -> BestSeat
         best.join(&mut all, seat);
     }
     all
+}
+
+/// The least position of the sweep whose truth value is true, by one worker for each share, or `None` where there is
+/// none. The shares are settled, and what they carry is dropped. It takes no memory.
+///
+/// A worker skips a position only where the best word, as it loaded it there, is no greater.
+pub fn least_hit<
+    H: Threads + Sync,
+    L: Local + Send + Sync + Drop,
+    F: Test<L> + Sync,
+    G: Turnstile + Sync,
+>(
+    th: &H,
+    sweep: &Sweep<L, F>,
+    mut shares: Vec<Share<Seeker<L>>>,
+    best: Best,
+    gate: &G,
+) -> Option<u64>
+    requires deal { (block : ℕ) × AreDeal sweep.now.total block shares.items }
+    requires fresh { All IsFresh shares.items }
+    requires fit { All (λ s. L.fit s.load.local ≡ true) shares.items }
+    requires seats { AreNewSeatsOf best (map (λ s. s.load.seat) shares.items) }
+    ensures some { IfSome result (λ p. IsLeastHit (F.truth sweep.now.test) sweep.now.total p) }
+    ensures none { IfNone result ((p : ℕ) → p < sweep.now.total → F.truth sweep.now.test p ≡ false) }
+{
+    let search = Search { sweep, best: &best };
+    for_each(th, &mut shares, &search, gate);
+    let seat = join_seats(&best, settle(shares).loads());
+    let word = best.close(seat);
+    if word < sweep.total { Some(word) } else { None }
 }

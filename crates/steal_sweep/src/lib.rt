@@ -13,6 +13,7 @@ mod turnstile;
 pub use best::{Best, BestSeat};
 pub use each::for_each;
 pub use job::Job;
+pub use least::least_hit;
 pub use search::Seeker;
 pub use sweep::{Local, Sweep, Test};
 pub use turnstile::{OpenWay, Turnstile};

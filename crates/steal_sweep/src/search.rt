@@ -14,6 +14,7 @@ pub struct Seeker<L> {
 }
 
 /// The search for the least hit of a sweep.
+#[derive(Drop)]
 pub(crate) struct Search<'a, L: Local, F: Test<L>> {
     pub sweep: &'a Sweep<L, F>,
     pub best: &'a Best,
