@@ -1,0 +1,9 @@
+pub mod Cuts
+pub mod Blocks
+pub mod Entries
+pub mod Rule
+pub mod Gives
+pub mod Thefts
+pub mod Seats
+pub mod Places
+pub mod Shares

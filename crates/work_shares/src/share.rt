@@ -1,0 +1,55 @@
+//! One worker's end of a deal.
+ghost use Rattle.std.specs.Prelude.{◌≡◌, ◌≤◌, ◌<◌, ◌++◌, ◌∷◌, [], ◌||◌, ◌↔◌, IsTrue, IfSome, IfNone, Contains, is_none, vec_len, vec_capacity};
+ghost use Rattle.work_shares.specs.Cuts.{dealt};
+ghost use Rattle.work_shares.specs.Blocks.{extent_of};
+
+use crate::block::Block;
+use crate::seat::Seat;
+
+/// Room to take a deal apart: for the seats and for the loads.
+#[derive(Drop)]
+pub struct Room<L> {
+    pub seats: Vec<Seat>,
+    pub loads: Vec<L>,
+    ghost empty: { (vec_len seats ≡ 0) × (vec_len loads ≡ 0) },
+}
+
+/// One worker's end of a deal, with what the worker carries.
+#[derive(Drop)]
+pub struct Share<L> {
+    pub load: L,
+    pub(crate) seat: Seat,
+    pub(crate) room: Room<L>,
+    ghost seated: { IsSeated seat },
+    ghost roomy: { (seat.workers ≤ vec_capacity room.seats) × (seat.workers ≤ vec_capacity room.loads) },
+}
+
+ghost use Rattle.work_shares.specs.Seats.{IsSeated};
+
+impl<L> Share<L> {
+    ghost use Rattle.work_shares.specs.Shares.{place_of, noted_by, is_ended, share_left};
+
+    /// A block that no other `next` of this deal gives. `None` only once this share's own deque has no more blocks; those
+    /// that still lie in other deques are taken by their owners.
+    ///
+    /// It never waits: at most two rounds of tries to steal.
+    pub fn next(&mut self) -> Option<Block>
+        ensures place { place_of self.new ≡ place_of self.old }
+        ensures load { self.new.load ≡ self.old.load }
+        ensures ended { is_ended self.new ≡ is_none result || is_ended self.old }
+
+        ensures noted { IfSome result (λ block. noted_by self.new ≡ noted_by self.old ++ block ∷ []) }
+        ensures dealt { IfSome result (λ block. Contains (dealt (place_of self.old).total (place_of self.old).size) (extent_of block)) }
+        ensures fewer { IfSome result (λ _. share_left self.new < share_left self.old) }
+        ensures none { IfNone result (noted_by self.new ≡ noted_by self.old) }
+    {
+        self.seat.next()
+    }
+
+    /// Whether a `next` of this share answered `None`.
+    pub fn ended(&self) -> bool
+        ensures { result ≡ is_ended self.now }
+    {
+        self.seat.ended
+    }
+}
