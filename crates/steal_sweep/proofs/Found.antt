@@ -57,16 +57,16 @@ module _ {L : Type 0} where
           ∙ (sum_by-map (λ s. (known_by s.seat).parts) (load_of {L = Seeker L}) new ∙ (parts_kept old new same ∙ (sym (sum_by-map (λ s. (known_by s).parts) seat_of old) ∙ all.whole)))
 
   -- no hit is below a word that isn't above what any seat knows, where the seats cover what their shares took
-  pub no_hit_below : (truth : ℕ → Bool) (total size word n : ℕ) (shares : List (Share (Seeker L))) (loads : List (Seeker L)) (taken : List (List Block)) → loads ≡ map load_of shares
+  pub no_hit_below : (truth : ℕ → Bool) (total size word n : ℕ) (shares : List (Share (Seeker L))) (loads : List (Seeker L)) (taken : List (List Block)) → 0 < size → loads ≡ map load_of shares
       → taken ≡ map noted_by shares → IsPermutation (dealt total size) (flat_map extents_of taken) → All (λ s. Covers truth total (known_by (seat_of s)) (positions_in (noted_by s))) shares
       → word ≤ n → All (λ s. n ≤ (known_by s.seat).least) loads → (p : ℕ) → p < total → truth p ≡ true → word ≤ p
-  no_hit_below truth total size word n shares loads taken carried are once covered le low p lt hit =
+  no_hit_below truth total size word n shares loads taken some carried are once covered le low p lt hit =
       let P : ℕ → Type 0 = λ q. truth q ≡ true → word ≤ q in
       let Q : Seeker L → Type 0 = λ s. n ≤ (known_by s.seat).least in
       let known_low : All (λ s. Q (load_of s)) shares = All-from_map load_of Q shares (subst (All Q) carried low) in
       let each : All (λ s. All P (positions_in (noted_by s))) shares = λ k d in_list i e lt_i yes. (let a = (covered k d in_list).least i e lt_i yes in let b = known_low k d in_list in omega arith) in
       let blocks : All (λ blocks. All P (positions_in blocks)) taken = All-same (λ blocks. All P (positions_in blocks)) taken (map noted_by shares) are (All-map (λ blocks. All P (positions_in blocks)) noted_by shares each) in
-      in_range P 0 total p (omega arith) (omega arith) (whole_deal P total size taken once blocks) hit
+      in_range P 0 total p (omega arith) (omega arith) (whole_deal P total size taken some once blocks) hit
 
   -- what the seats of the loads put are hits
   pub put_hits : (truth : ℕ → Bool) (total : ℕ) (shares : List (Share (Seeker L))) (loads : List (Seeker L)) → loads ≡ map load_of shares
