@@ -50,11 +50,11 @@ module _ {L : Type 0} where
       sym (sum_by-map first name new) ∙ (ap (λ l. sum_by first l) same ∙ sum_by-map first name old)
 
   -- where the seats of all shares are all those of a new word, they have eight parts, also as loads
-  pub parts_whole : (b : Best) (old new : List (Share (Seeker L))) (loads : List (Seeker L)) → AreNewSeatsOf b (map seat_of old) → loads ≡ map load_of new
+  pub parts_whole : (b : Best) (old new : List (Share (Seeker L))) (loads : List (Seeker L)) → AreNewSeatsOf b (map (λ s. s.seat) (map load_of old)) → loads ≡ map load_of new
       → map (λ s. (known_by (seat_of s)).parts ∷ []) new ≡ map (λ s. (known_by (seat_of s)).parts ∷ []) old → sum_by (λ s. (known_by s.seat).parts) loads ≡ 8
   parts_whole b old new loads all are same =
       ap (λ l. sum_by (λ s. (known_by s.seat).parts) l) are
-          ∙ (sum_by-map (λ s. (known_by s.seat).parts) (load_of {L = Seeker L}) new ∙ (parts_kept old new same ∙ (sym (sum_by-map (λ s. (known_by s).parts) seat_of old) ∙ all.whole)))
+      ∙ (sum_by-map (λ s. (known_by s.seat).parts) (load_of {L = Seeker L}) new ∙ (parts_kept old new same ∙ (sym (sum_by-map (λ s. (known_by s.seat).parts) (load_of {L = Seeker L}) old) ∙ (sym (sum_by-map (λ s. (known_by s).parts) (λ s. s.seat) (map load_of old)) ∙ all.whole))))
 
   -- no hit is below a word that isn't above what any seat knows, where the seats cover what their shares took
   pub no_hit_below : (truth : ℕ → Bool) (total size word n : ℕ) (shares : List (Share (Seeker L))) (loads : List (Seeker L)) (taken : List (List Block)) → 0 < size → loads ≡ map load_of shares

@@ -46,3 +46,8 @@ All-from_flat_map f P (x ∷ xs) all =
 pub sum_by-map : {X Y : Type 0} (g : Y → ℕ) (f : X → Y) (xs : List X) → sum_by g (map f xs) ≡ sum_by (λ x. g (f x)) xs
 sum_by-map g f [] = refl
 sum_by-map g f (x ∷ xs) = sum_by-cons g (f x) (map f xs) ∙ (ap (λ (n : ℕ). g (f x) + n) (sum_by-map g f xs) ∙ sym (sum_by-cons (λ z. g (f z)) x xs))
+
+-- an image that is taken back
+pub map_back : {X Y : Type 0} (g : Y → X) (f : X → Y) (xs : List X) → ((x : X) → g (f x) ≡ x) → map g (map f xs) ≡ xs
+map_back g f [] back = refl
+map_back g f (x ∷ xs) back = ap (λ z. z ∷ map g (map f xs)) (back x) ∙ ap (λ zs. x ∷ zs) (map_back g f xs back)

@@ -1,7 +1,7 @@
 // A job over all positions of a deal.
 ghost use Rattle.std.specs.Prelude.{◌≡◌, ℕ, ◌<◌, ◌≤◌, [], List, All, IsTrue, map, length, slice_index_or};
 ghost use Rattle.std.specs.List.{range_with_len};
-ghost use Rattle.work_shares.specs.Shares.{AreDeal, IsFresh, place_of, noted_by, is_ended};
+ghost use Rattle.work_shares.specs.Shares.{AreDeal, IsFresh, place_of, noted_by, is_ended, load_of};
 ghost use Rattle.steal_sweep.specs.Positions.{positions_in};
 
 use crate::job::{Job, do_positions};
@@ -67,7 +67,7 @@ pub fn for_each<H: Threads + Sync, L: Send, J: Job<L> + Sync, G: Turnstile + Syn
 )
     requires deal { (total : ℕ) × ((block : ℕ) × AreDeal total block shares.old.items × All (J.own job.now) (range_with_len 0 total)) }
     requires fresh { All IsFresh shares.old.items }
-    requires stands { All (λ s. J.stands job.now s.load []) shares.old.items }
+    requires stands { All (λ local. J.stands job.now local []) (map load_of shares.old.items) }
     ensures deal { (total block : ℕ) → AreDeal total block shares.old.items → AreDeal total block shares.new.items }
     ensures ended { All (λ s. IsTrue (is_ended s)) shares.new.items }
     ensures stands { All (λ s. J.stands job.now s.load (positions_in (noted_by s))) shares.new.items }

@@ -17,3 +17,6 @@ pub use least::least_hit;
 pub use search::Seeker;
 pub use sweep::{Local, Sweep, Test};
 pub use turnstile::{OpenWay, Turnstile};
+
+#[cfg(test)]
+mod tests;

@@ -1,9 +1,9 @@
-use Rattle.std.proofs.Common.{◌≡◌, ℕ, ◌<◌, List, All, map, length, get_or, sym, ap, ◌∙◌, subst, arith}
+use Rattle.std.proofs.Common.{◌≡◌, ℕ, ◌<◌, List, [], All, map, length, get_or, sym, ap, ◌∙◌, subst, arith}
 use Rattle.std.specs.List.{range_with_len}
 use Rattle.work_shares.specs.declared.share.Share.{Share}
-use Rattle.work_shares.specs.Shares.{AreDeal, place_of}
+use Rattle.work_shares.specs.Shares.{AreDeal, place_of, load_of}
 use Rattle.work_shares.proofs.Kept.{AreDeal-kept}
-use Rattle.steal_sweep.proofs.Lists.{map_same, at_map, written_back}
+use Rattle.steal_sweep.proofs.Lists.{map_same, at_map, written_back, All-from_map}
 use Rattle.steal_sweep.proofs.each.for_each.Goals as goal
 
 pub work_all-requires-clause-own : goal.work_all-requires-clause-own
@@ -14,6 +14,11 @@ work_all-requires-clause-own g c κs within =
     let P : S → Type 0 = λ s. All own (range_with_len 0 (place_of s).total) in
     let each : All P c.args.shares.now.items = λ k d lt. subst (λ (n : ℕ). All own (range_with_len 0 n)) (sym (c.requires.deal.1.1.each k _ (at_map (place_of {L = g.row.L.Denot}) c.args.shares.now.items k d lt)).0) c.requires.deal.1.2 in
     subst (All P) (sym is) each
+
+pub work_all-requires-clause-stands : goal.work_all-requires-clause-stands
+work_all-requires-clause-stands g c κs within =
+    let P = λ (l : g.row.L.Denot). g.J.Job.stands c.args.job.now l [] in
+    subst (All (λ (s : Share g.row.L.Denot). P s.load)) (sym c.as_mut_slice.ensures.value) (All-from_map load_of P c.args.shares.now.items c.requires.stands)
 
 pub returns-clause-deal : goal.returns-clause-deal
 returns-clause-deal g c = λ total block are.

@@ -16,10 +16,12 @@ for_each-requires-clause-deal g c κs within = (c.args.sweep.now.total, (c.requi
 
 pub for_each-requires-clause-stands : goal.for_each-requires-clause-stands
 for_each-requires-clause-stands g c κs within k d lt =
-    let seats = c.requires.seats in (
+    let loads = map load_of c.args.shares.items in
+    let seats = c.requires.seats in
+    let seat = λ (s : Seeker g.row.L.Denot). s.seat in (
       c.requires.fit k d lt,
-      All-from_map seat_of (IsSeatOf c.args.best) c.args.shares.items seats.seat k d lt,
-      covers_none (g.F.Test.truth c.args.sweep.now.test) c.args.sweep.now.total _ (All-from_map seat_of (λ s. (known_by s).put ≡ []) c.args.shares.items seats.new k d lt),
+      All-from_map seat (IsSeatOf c.args.best) loads seats.seat k d lt,
+      covers_none (g.F.Test.truth c.args.sweep.now.test) c.args.sweep.now.total _ (All-from_map seat (λ s. (known_by s).put ≡ []) loads seats.new k d lt),
     )
 
 pub settle-requires-clause-deal : goal.settle-requires-clause-deal
@@ -43,8 +45,8 @@ returns-then-word-sweep-clause-some g c =
     let covered = λ (k : ℕ) (d : Share (Seeker g.row.L.Denot)) (lt : k < length shares). (c.for_each.ensures.stands k d lt).2 in
     let once = c.settle.ensures.once total c.requires.deal.0 (c.for_each.ensures.deal total c.requires.deal.0 c.requires.deal.1) in
     word_is_least truth total c.close-word.result (known_by c.join_seats-seat.result).put c.if-word-sweep.true (search rules) c.close-word.ensures.put
-        (c.join_seats-seat.ensures.hits truth total (put_hits truth total shares c.loads.result.items carried covered))
-        (no_hit_below truth total c.requires.deal.0 c.close-word.result (known_by c.join_seats-seat.result).least shares c.loads.result.items (blocks_of c.settle.result) (deal_size total c.requires.deal.0 c.args.shares.items c.requires.deal.1) carried c.settle.ensures.blocks once covered c.close-word.ensures.least c.join_seats-seat.ensures.least)
+    (c.join_seats-seat.ensures.hits truth total (put_hits truth total shares c.loads.result.items carried covered))
+    (no_hit_below truth total c.requires.deal.0 c.close-word.result (known_by c.join_seats-seat.result).least shares c.loads.result.items (blocks_of c.settle.result) (deal_size total c.requires.deal.0 c.args.shares.items c.requires.deal.1) carried c.settle.ensures.blocks once covered c.close-word.ensures.least c.join_seats-seat.ensures.least)
 
 pub returns-else-word-sweep-clause-none : goal.returns-else-word-sweep-clause-none
 returns-else-word-sweep-clause-none g c =
@@ -55,4 +57,4 @@ returns-else-word-sweep-clause-none g c =
     let covered = λ (k : ℕ) (d : Share (Seeker g.row.L.Denot)) (lt : k < length shares). (c.for_each.ensures.stands k d lt).2 in
     let once = c.settle.ensures.once total c.requires.deal.0 (c.for_each.ensures.deal total c.requires.deal.0 c.requires.deal.1) in
     none_below truth total c.close-word.result c.if-word-sweep.false
-        (no_hit_below truth total c.requires.deal.0 c.close-word.result (known_by c.join_seats-seat.result).least shares c.loads.result.items (blocks_of c.settle.result) (deal_size total c.requires.deal.0 c.args.shares.items c.requires.deal.1) carried c.settle.ensures.blocks once covered c.close-word.ensures.least c.join_seats-seat.ensures.least)
+    (no_hit_below truth total c.requires.deal.0 c.close-word.result (known_by c.join_seats-seat.result).least shares c.loads.result.items (blocks_of c.settle.result) (deal_size total c.requires.deal.0 c.args.shares.items c.requires.deal.1) carried c.settle.ensures.blocks once covered c.close-word.ensures.least c.join_seats-seat.ensures.least)
