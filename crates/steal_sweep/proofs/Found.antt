@@ -6,9 +6,10 @@ use Rattle.std.proofs.lemmas.List.Elements.{All-nil, All-map, All-same, All-cont
 use Rattle.std.proofs.lemmas.List.FromFn.{length-range_with_len, get_or-range_with_len}
 use Rattle.work_shares.specs.declared.block.Block.{Block}
 use Rattle.work_shares.specs.declared.share.Share.{Share}
+use Rattle.work_shares.specs.declared.settling.Settled.{Settled}
 use Rattle.work_shares.specs.Cuts.{dealt}
 use Rattle.work_shares.specs.Blocks.{extents_of}
-use Rattle.work_shares.specs.Shares.{noted_by, load_of}
+use Rattle.work_shares.specs.Shares.{noted_by, load_of, loads_of}
 use Rattle.steal_sweep.specs.declared.rule.Known.{Known}
 use Rattle.steal_sweep.specs.declared.best.Best.{Best}
 use Rattle.steal_sweep.specs.declared.best.BestSeat.{BestSeat}
@@ -40,6 +41,10 @@ not_true false _ = refl
 module _ {L : Type 0} where
   abbrev pub seat_of : Share (Seeker L) → BestSeat
   seat_of s = s.load.seat
+
+  -- a settled deal gives back what its shares carried
+  pub carried_by : (settled : Settled (Seeker L)) (loads : List (Seeker L)) (shares : List (Share (Seeker L))) → loads ≡ loads_of settled → loads_of settled ≡ map load_of shares → loads ≡ map load_of shares
+  carried_by settled loads shares given kept = given ∙ kept
 
   -- the parts of the shares' seats, where each share's are as they were
   pub parts_kept : (old new : List (Share (Seeker L))) → map (λ s. (known_by (seat_of s)).parts ∷ []) new ≡ map (λ s. (known_by (seat_of s)).parts ∷ []) old

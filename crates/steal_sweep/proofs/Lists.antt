@@ -6,13 +6,6 @@ use Rattle.std.proofs.lemmas.List.Concat.{flat_map-cons}
 use Rattle.std.proofs.lemmas.List.Elements.{All-nil, All-cons, All-head, All-tail, All-append, All-take, All-drop}
 use Rattle.std.proofs.lemmas.List.Sums.{sum_by-cons}
 
--- where f agrees at each place of two lists of one length, it does on the lists
-pub map_same : {X Y : Type 0} (f : X → Y) (xs ys : List X) → length ys ≡ length xs → ((k : ℕ) (d : X) → k < length xs → f (get_or ys k d) ≡ f (get_or xs k d)) → map f ys ≡ map f xs
-map_same f [] [] len same = refl
-map_same f [] (y ∷ ys) len same = absurd (omega arith)
-map_same f (x ∷ xs) [] len same = absurd (omega arith)
-map_same f (x ∷ xs) (y ∷ ys) len same = ap (λ z. z ∷ map f ys) (same 0 x (omega arith)) ∙ ap (λ zs. f x ∷ zs) (map_same f xs ys (omega arith) (λ k d lt. same (suc k) d (omega arith)))
-
 -- the image at a place
 pub at_map : {X Y : Type 0} (f : X → Y) (xs : List X) (k : ℕ) (d : X) → k < length xs → slice_get (map f xs) k ≡ Some (f (get_or xs k d))
 at_map f [] k d lt = absurd (omega arith)

@@ -2,19 +2,14 @@
 use Rattle.std.proofs.Common.{◌≡◌, ℕ, zero, suc, ◌+◌, ◌-◌, ◌<◌, ◌≤◌, List, [], ◌∷◌, ◌++◌, All, get_or, refl, sym, ap, ◌∙◌, subst, append_assoc, arith}
 use Rattle.std.specs.List.{range_with_len}
 use Rattle.std.proofs.lemmas.List.FromFn.{length-range_with_len, get_or-range_with_len}
-
--- a range and the number behind it
-pub range_next : (a n : ℕ) → range_with_len a n ++ (a + n) ∷ [] ≡ range_with_len a (n + 1)
-range_next a zero = ap (λ (k : ℕ). k ∷ []) (let r : a + 0 ≡ a = omega arith in r)
-range_next a (suc n) = ap (λ (l : List ℕ). a ∷ l) (ap (λ (k : ℕ). range_with_len (a + 1) n ++ k ∷ []) (let r : a + suc n ≡ a + 1 + n = omega arith in r) ∙ range_next (a + 1) n)
-    ∙ ap (range_with_len a) (let r : suc (n + 1) ≡ suc n + 1 = omega arith in r)
+use Rattle.work_shares.proofs.Cover.{range-append}
 
 -- the position p behind those from a on
 pub one_more : (done : List ℕ) (a p : ℕ) → a ≤ p → (done ++ range_with_len a (p - a)) ++ p ∷ [] ≡ done ++ range_with_len a (p + 1 - a)
 one_more done a p le =
     let at : p ≡ a + (p - a) = omega arith in
     let next : p - a + 1 ≡ p + 1 - a = omega arith in
-    append_assoc done (range_with_len a (p - a)) (p ∷ []) ∙ ap (λ l. done ++ l) (ap (λ (k : ℕ). range_with_len a (p - a) ++ k ∷ []) at ∙ range_next a (p - a) ∙ ap (range_with_len a) next)
+    append_assoc done (range_with_len a (p - a)) (p ∷ []) ∙ ap (λ l. done ++ l) (ap (λ (k : ℕ). range_with_len a (p - a) ++ k ∷ []) at ∙ range-append a (p - a) 1 ∙ ap (range_with_len a) next)
 
 -- what holds of each number of a range holds of one that lies in it
 pub in_range : (P : ℕ → Type 0) (a n p : ℕ) → a ≤ p → p < a + n → All P (range_with_len a n) → P p

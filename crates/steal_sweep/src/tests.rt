@@ -5,7 +5,7 @@ mod marks;
 mod tables;
 
 use crate::OpenWay;
-use gates::{Delays, Meeting, mixed};
+use gates::{Delays, Meeting, Turns, mixed};
 use marks::mark;
 use std::alloc::{AllocError, Global};
 use std::test::Fail;
@@ -87,5 +87,14 @@ fn two_workers_meet(rt: HostRuntime) -> Result<(), Fail> {
     let shares = mark(&rt, rt.alloc(), 256, 64, 2, &gate)?;
     assert_eq!(rt; shares.len(), 2);
     assert!(rt; gate.was_seen());
+    Ok(())
+}
+
+#[test]
+fn a_worker_passes_before_each_block(rt: HostRuntime) -> Result<(), Fail> {
+    let gate = Turns::new();
+    let shares = mark(&rt, rt.alloc(), 257, 64, 1, &gate)?;
+    assert_eq!(rt; shares.len(), 1);
+    assert_eq!(rt; gate.count(), Some(5));
     Ok(())
 }

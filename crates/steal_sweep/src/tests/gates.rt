@@ -78,3 +78,36 @@ impl Turnstile for Meeting {
         }
     }
 }
+
+/// Sees whether the passes of one worker come in turn.
+#[derive(Drop)]
+pub struct Turns {
+    next: AtomicU64,
+    astray: AtomicU64,
+}
+
+impl Turns {
+    pub fn new() -> Turns {
+        Turns {
+            next: AtomicU64::new(0),
+            astray: AtomicU64::new(0),
+        }
+    }
+
+    /// How many passes there were, if they came in turn.
+    pub fn count(&self) -> Option<u64> {
+        if self.astray.load(Ordering::SeqCst) == 0 {
+            Some(self.next.load(Ordering::SeqCst))
+        } else {
+            None
+        }
+    }
+}
+
+impl Turnstile for Turns {
+    fn pass(&self, worker: u32, turn: u64) {
+        if worker != 0 || turn != self.next.fetch_add(1, Ordering::SeqCst) {
+            self.astray.store(1, Ordering::SeqCst);
+        }
+    }
+}

@@ -2,8 +2,8 @@ use Rattle.std.proofs.Common.{◌≡◌, ℕ, ◌<◌, List, [], All, map, lengt
 use Rattle.std.specs.List.{range_with_len}
 use Rattle.work_shares.specs.declared.share.Share.{Share}
 use Rattle.work_shares.specs.Shares.{AreDeal, place_of, load_of}
-use Rattle.work_shares.proofs.Kept.{AreDeal-kept}
-use Rattle.steal_sweep.proofs.Lists.{map_same, at_map, written_back, All-from_map}
+use Rattle.work_shares.proofs.Kept.{AreDeal-kept, map-same}
+use Rattle.steal_sweep.proofs.Lists.{at_map, written_back, All-from_map}
 use Rattle.steal_sweep.proofs.each.for_each.Goals as goal
 
 pub work_all-requires-clause-own : goal.work_all-requires-clause-own
@@ -41,4 +41,4 @@ returns-clause-name g c =
     let len : length new ≡ length old = c.work_all.auto.shares ∙ ap (λ (l : List S). length l) is in
     let whole = written_back c.args.shares.now.len new old (c.work_all.auto.shares ∙ c.as_mut_slice.ensures.len) in
     let same = subst (λ (l : List S). (k : ℕ) (d : S) → k < length l → name (get_or new k d) ≡ name (get_or l k d)) is c.work_all.ensures.name in
-    ap (map name) whole ∙ map_same name old new len same
+    ap (map name) whole ∙ map-same name old new len same
