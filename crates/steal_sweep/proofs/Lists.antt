@@ -30,6 +30,7 @@ All-flat_map f P [] all = All-nil P
 All-flat_map f P (x ∷ xs) all =
     subst (All P) (sym (flat_map-cons f x xs)) (All-append P (f x) (flat_map f xs) (All-head (λ z. All P (f z)) x xs all) (All-flat_map f P xs (All-tail (λ z. All P (f z)) x xs all)))
 
+-- and the other way round
 pub All-from_flat_map : {X Y : Type 0} (f : X → List Y) (P : Y → Type 0) (xs : List X) → All P (flat_map f xs) → All (λ x. All P (f x)) xs
 All-from_flat_map f P [] all = All-nil (λ z. All P (f z))
 All-from_flat_map f P (x ∷ xs) all =

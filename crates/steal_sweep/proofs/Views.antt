@@ -21,6 +21,7 @@ parts_set views i v w e =
     let at = found_at views i v e in
     ap (λ (u : Known). all_parts (set views i w) + u.parts) (sym at.1) ∙ sum_by-set (λ (u : Known). u.parts) views i w v at.0
 
+-- a view that is added adds its parts
 pub parts_snoc : (views : List Known) (w : Known) → all_parts (views ++ w ∷ []) ≡ all_parts views + w.parts
 parts_snoc views w = sum_by_push (λ (u : Known). u.parts) views w
 
@@ -65,7 +66,3 @@ pub put_snoc : (views : List Known) (w : Known) (x : ℕ) → WasPut views x →
 put_snoc views w x s = ⊎_elim (λ e. inl e)
     (λ (o : (seat : ℕ) × (u : Known) × (get_elem? views seat ≡ some u) × Contains u.put x). inr (o.0, o.1, at_longer views (w ∷ []) o.0 o.1 o.2, o.3))
     s
-
--- a view that has put nothing can be replaced
-pub put_dropped : (views : List Known) (i : ℕ) (v w : Known) (x : ℕ) → get_elem? views i ≡ some v → ¬ (Contains v.put x) → WasPut views x → WasPut (set views i w) x
-put_dropped views i v w x at none s = put_set views i v w x at (λ h. absurd (none h)) s

@@ -5,6 +5,7 @@ use lib.ListN.{get_elem?}
 use Rattle.atomic_table.specs.Table.{State, Me, Step}
 use Rattle.steal_sweep.specs.declared.rule.Known.{Known}
 
+-- what a seat with these parts knows
 abbrev pub known : ℕ → ℕ → List ℕ → Known
 known parts least put = record { parts = parts; least = least; put = put }
 
@@ -32,6 +33,7 @@ pub record Leads (s : State (Unit {0}) Known) : Type 0 where
   pub bounds : (seat : ℕ) (v : Known) → get_elem? s.views seat ≡ some v → Bounds (slice_index s.words 0) v
   pub source : WasPut s.views (slice_index s.words 0)
 
+-- what a step tells of the seat before it, the word found and the seat after it
 abbrev pub Told : Type 1
 Told = Step (Unit {0}) → Me (Unit {0}) Known → ℕ → Me (Unit {0}) Known → Type 0
 

@@ -17,6 +17,7 @@ seat_table s = s.seat.table_id
 abbrev pub known_by : BestSeat → Known
 known_by s = s.seat.me.0
 
+-- the seat is one of this word
 abbrev pub IsSeatOf : Best → BestSeat → Type 0
 IsSeatOf b s = seat_table s ≡ table_of b
 

@@ -49,7 +49,8 @@ fn work_all<H: Threads + Sync, L: Send, J: Job<L> + Sync, G: Turnstile + Sync>(
 {
     let workers = shares.len();
     let part = |worker: usize, share: &mut Share<L>|
-        requires { (worker < 8) × IsFresh share.old × All (J.own job.now) (range_with_len 0 (place_of share.old).total) × J.stands job.now share.old.load [] }
+        requires { (worker < 8) × IsFresh share.old × J.stands job.now share.old.load []
+            × All (J.own job.now) (range_with_len 0 (place_of share.old).total) }
     { work(job, gate, worker as u32, share) };
     thread::for_each_mut(th, shares, workers, &part);
 }
@@ -65,13 +66,16 @@ pub fn for_each<H: Threads + Sync, L: Send, J: Job<L> + Sync, G: Turnstile + Syn
     job: &J,
     gate: &G,
 )
-    requires deal { (total : ℕ) × ((block : ℕ) × AreDeal total block shares.old.items × All (J.own job.now) (range_with_len 0 total)) }
+    requires deal { (total : ℕ) × ((block : ℕ) × AreDeal total block shares.old.items
+        × All (J.own job.now) (range_with_len 0 total)) }
     requires fresh { All IsFresh shares.old.items }
     requires stands { All (λ local. J.stands job.now local []) (map load_of shares.old.items) }
-    ensures deal { (total block : ℕ) → AreDeal total block shares.old.items → AreDeal total block shares.new.items }
+    ensures deal { (total block : ℕ) → AreDeal total block shares.old.items
+        → AreDeal total block shares.new.items }
     ensures ended { All (λ s. IsTrue (is_ended s)) shares.new.items }
     ensures stands { All (λ s. J.stands job.now s.load (positions_in (noted_by s))) shares.new.items }
-    ensures name { map (λ s. J.name job.now s.load) shares.new.items ≡ map (λ s. J.name job.now s.load) shares.old.items }
+    ensures name { map (λ s. J.name job.now s.load) shares.new.items
+        ≡ map (λ s. J.name job.now s.load) shares.old.items }
 {
     work_all(th, shares.as_mut_slice(), job, gate);
 }

@@ -19,7 +19,8 @@ fn join_seats<L: Drop>(best: &Best, mut seekers: Vec<Seeker<L>>) -> BestSeat
     ensures seat { IsSeatOf best.now result }
     ensures parts { (known_by result).parts ≡ sum_by (λ s. (known_by s.seat).parts) seekers.items }
     ensures least { All (λ s. (known_by result).least ≤ (known_by s.seat).least) seekers.items }
-    ensures hits { (truth : ℕ → Bool) (total : ℕ) → All (λ s. All (IsHit truth total) (known_by s.seat).put) seekers.items
+    ensures hits { (truth : ℕ → Bool) (total : ℕ)
+        → All (λ s. All (IsHit truth total) (known_by s.seat).put) seekers.items
         → All (IsHit truth total) (known_by result).put }
 {
     let Some(Seeker { seat, local }) = seekers.pop() else {
