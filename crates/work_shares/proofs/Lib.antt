@@ -7,3 +7,10 @@ pub mod Pushes
 pub mod Moves
 pub mod Kept
 pub mod Cover
+pub mod Indexes
+pub mod TakingBack
+pub mod AllBack
+pub mod Counts
+pub mod Permuted
+pub mod Parting
+pub mod Ties

@@ -6,4 +6,8 @@ pub mod Gives
 pub mod Thefts
 pub mod Seats
 pub mod Places
+pub mod Ways
+pub mod Owners
+pub mod Parts
 pub mod Shares
+pub mod Apart

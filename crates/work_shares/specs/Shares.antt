@@ -1,7 +1,7 @@
 -- Shares and settled deals as callers see them.
-use Rattle.std.specs.Prelude.{◌≡◌, ℕ, Bool, false, List, [], map}
+use Rattle.std.specs.Prelude.{◌≡◌, ℕ, Bool, false, List, Vec, [], map}
+use Rattle.std.specs.declared.alloc.Global.{Global}
 use Rattle.work_shares.specs.declared.block.Block.{Block}
-use Rattle.work_shares.specs.declared.seat.Seat.{Seat}
 use Rattle.work_shares.specs.declared.share.Share.{Share}
 use Rattle.work_shares.specs.declared.settling.Settled.{Settled}
 use Rattle.work_shares.specs.Seats.{place_of_seat, seat_left}
@@ -39,7 +39,7 @@ module _ {L : Type 0} where
 
   -- the blocks of each worker, in the order in which they were taken
   abbrev pub blocks_of : Settled L → List (List Block)
-  blocks_of s = map (λ (seat : Seat). seat.noted.items) s.seats.items
+  blocks_of s = map (λ (own : Vec Block Global). own.items) s.notes.items
 
   -- the load of each worker
   abbrev pub loads_of : Settled L → List L

@@ -13,6 +13,8 @@ mod dealing;
 mod deque;
 mod entry;
 mod law;
+mod parts;
+mod returns;
 mod seat;
 mod settling;
 mod share;

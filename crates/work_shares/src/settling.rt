@@ -1,18 +1,42 @@
 //! A deal whose shares have all ended.
-ghost use Rattle.std.specs.Prelude.{◌≡◌, ℕ, ◌<◌, All, IsTrue, Some, map, length, slice_get, flat_map, IsPermutation};
+ghost use Rattle.std.specs.Prelude.{◌≡◌, ℕ, ◌<◌, All, IsTrue, Some, map, length, slice_get, flat_map, IfSome, vec_len, IsPermutation};
 ghost use Rattle.work_shares.specs.Cuts.{dealt};
 ghost use Rattle.work_shares.specs.Blocks.{extents_of};
-ghost use Rattle.work_shares.specs.Shares.{AreDeal, is_ended, noted_by, load_of, blocks_of, loads_of};
+ghost use Rattle.work_shares.specs.Shares.{AreDeal, place_of, is_ended, noted_by, load_of, blocks_of, loads_of};
+ghost use Rattle.work_shares.specs.Apart.{ArePartsOf};
 
 use crate::block::Block;
-use crate::seat::Seat;
+use crate::parts::Parts;
+use crate::returns::{learn_all, take_back_all};
 use crate::share::Share;
 
 /// A settled deal: the blocks and the load of each worker.
 #[derive(Drop)]
 pub struct Settled<L> {
-    pub(crate) seats: Vec<Seat>,
+    pub(crate) notes: Vec<Vec<Block>>,
     pub(crate) loads: Vec<L>,
+}
+
+// The parts of shares, in their order. The room for them comes from the first share.
+fn parted<L>(mut shares: Vec<Share<L>>) -> Parts<L>
+    requires some { 0 < vec_len shares }
+    requires first { IfSome (slice_get shares.items 0) (λ share. (place_of share).worker ≡ 0) }
+    requires room { IfSome (slice_get shares.items 0) (λ share. (place_of share).workers ≡ vec_len shares) }
+    ensures { ArePartsOf shares.items result }
+{
+    let Share {
+        load,
+        seat,
+        room: mut parts,
+    } = shares.remove(0);
+    parts.put(load, seat);
+    while !shares.is_empty() {
+        let Share { load, seat, room } = shares.remove(0);
+        room.free();
+        parts.put(load, seat);
+    }
+    shares.destroy_empty();
+    parts
 }
 
 /// Takes the shares of a deal apart: all of them, in order, each ended. The blocks of all workers are those dealt, each
@@ -24,7 +48,15 @@ pub fn settle<L>(shares: Vec<Share<L>>) -> Settled<L>
     ensures loads { loads_of result ≡ map load_of shares.items }
     ensures once { (total block : ℕ) → AreDeal total block shares.items → IsPermutation (dealt total block) (flat_map extents_of (blocks_of result)) }
 {
-    unreachable!()
+    let Parts {
+        mut owners,
+        thefts,
+        notes,
+        loads,
+    } = parted(shares);
+    take_back_all(&mut owners, thefts);
+    learn_all(&mut owners);
+    Settled { notes, loads }
 }
 
 impl<L> Settled<L> {
@@ -33,10 +65,10 @@ impl<L> Settled<L> {
         requires { worker < length (blocks_of self.now) }
         ensures { slice_get (blocks_of self.now) worker ≡ Some result.now }
     {
-        self.seats[worker as usize].noted.as_slice()
+        self.notes[worker as usize].as_slice()
     }
 
-    /// The load of each worker.
+    /// The load of each worker, at its place.
     pub fn loads(self) -> Vec<L>
         ensures { result.items ≡ loads_of self }
     {

@@ -1,30 +1,25 @@
 //! One worker's end of a deal.
-ghost use Rattle.std.specs.Prelude.{◌≡◌, ◌≤◌, ◌<◌, ◌++◌, ◌∷◌, [], ◌||◌, ◌↔◌, IsTrue, IfSome, IfNone, Contains, is_none, vec_len, vec_capacity};
+ghost use Rattle.std.specs.Prelude.{◌≡◌, ◌<◌, ◌++◌, ◌∷◌, [], ◌||◌, IfSome, IfNone, Contains, is_none};
 ghost use Rattle.work_shares.specs.Cuts.{dealt};
 ghost use Rattle.work_shares.specs.Blocks.{extent_of};
+ghost use Rattle.work_shares.specs.Seats.{IsSeated};
+ghost use Rattle.work_shares.specs.Parts.{IsEmpty, HasRoom};
 
 use crate::block::Block;
+use crate::parts::Parts;
 use crate::seat::Seat;
-
-/// Room to take a deal apart: for the seats and for the loads.
-#[derive(Drop)]
-pub struct Room<L> {
-    pub seats: Vec<Seat>,
-    pub loads: Vec<L>,
-    ghost empty: { (vec_len seats ≡ 0) × (vec_len loads ≡ 0) },
-}
 
 /// One worker's end of a deal, with what the worker carries.
 #[derive(Drop)]
 pub struct Share<L> {
     pub load: L,
     pub(crate) seat: Seat,
-    pub(crate) room: Room<L>,
+    // the room to take the deal apart, at the first share
+    pub(crate) room: Parts<L>,
     ghost seated: { IsSeated seat },
-    ghost roomy: { (seat.workers ≤ vec_capacity room.seats) × (seat.workers ≤ vec_capacity room.loads) },
+    ghost empty: { IsEmpty room },
+    ghost roomy: { seat.worker ≡ 0 → HasRoom seat.workers room },
 }
-
-ghost use Rattle.work_shares.specs.Seats.{IsSeated};
 
 impl<L> Share<L> {
     ghost use Rattle.work_shares.specs.Shares.{place_of, noted_by, is_ended, share_left};

@@ -1,0 +1,53 @@
+-- Lists of pairs with the same sums are permutations of each other.
+use Rattle.std.proofs.Common.{◌≡◌, ◌≢◌, ℕ, zero, suc, ◌+◌, ◌==◌, ◌&&◌, ◌<◌, ◌≤◌, Bool, true, false, cond, List, [], ◌∷◌, ◌++◌, IsPermutation, refl, sym, ap, ◌∙◌, subst, arith}
+use Rattle.std.specs.List.{sum_by}
+use Rattle.std.proofs.lemmas.List.Sums.{sum_by-cons, sum_by-append}
+use Rattle.std.proofs.lemmas.List.Sorted.{IsPermutation-refl, IsPermutation-cons, IsPermutation-middle, IsPermutation-sym, IsPermutation-trans}
+use Rattle.std.proofs.lemmas.Bool.Decides.{nat_tests}
+
+abbrev same_pair : ℕ × ℕ → ℕ × ℕ → Bool
+same_pair p q = (p.0 == q.0) && (p.1 == q.1)
+
+abbrev is_pair : ℕ × ℕ → ℕ × ℕ → ℕ
+is_pair p q = cond (same_pair p q) 1 0
+
+-- what a test of pairs says
+pair_is : (p q : ℕ × ℕ) → same_pair p q ≡ true → q ≡ p
+pair_is p q e =
+    let a : q.0 ≡ p.0 = grind (arith, nat_tests) in
+    let b : q.1 ≡ p.1 = grind (arith, nat_tests) in
+    ap (λ k. (k, q.1)) a ∙ ap (λ k. (p.0, k)) b
+
+pair_same : (p : ℕ × ℕ) → same_pair p p ≡ true
+pair_same p = grind (arith, nat_tests)
+
+-- where a pair is found
+abbrev Found : ℕ × ℕ → List (ℕ × ℕ) → Type 0
+Found p qs = (before : List (ℕ × ℕ)) × ((after : List (ℕ × ℕ)) × (qs ≡ before ++ p ∷ after))
+
+found_first : (p q : ℕ × ℕ) (qs : List (ℕ × ℕ)) (b : Bool) → same_pair p q ≡ b → 0 < sum_by (is_pair p) (q ∷ qs) → (0 < sum_by (is_pair p) qs → Found p qs) → Found p (q ∷ qs)
+found_first p q qs true e some rest = ([], (qs, ap (λ r. r ∷ qs) (pair_is p q e)))
+found_first p q qs false e some rest =
+    let none : is_pair p q ≡ 0 = ap (λ b. cond b 1 0) e in
+    let f : Found p qs = rest (omega (arith, sum_by-cons (is_pair p) q qs)) in
+    (q ∷ f.0, (f.1.0, ap (λ l. q ∷ l) f.1.1))
+
+found : (p : ℕ × ℕ) (qs : List (ℕ × ℕ)) → 0 < sum_by (is_pair p) qs → Found p qs
+found p [] some = absurd (omega arith)
+found p (q ∷ qs) some = found_first p q qs (same_pair p q) refl some (found p qs)
+
+pub permuted : (ps qs : List (ℕ × ℕ)) → ((weight : ℕ × ℕ → ℕ) → sum_by weight ps ≡ sum_by weight qs) → IsPermutation ps qs
+permuted [] [] same = IsPermutation-refl []
+permuted [] (q ∷ qs) same = absurd (let one : ℕ × ℕ → ℕ = λ _. 1 in omega (arith, same one, sum_by-cons one q qs))
+permuted (p ∷ ps) qs same =
+    let own : is_pair p p ≡ 1 = ap (λ b. cond b 1 0) (pair_same p) in
+    let f = found p qs (omega (arith, same (is_pair p), sum_by-cons (is_pair p) p ps)) in
+    let before = f.0 in
+    let after = f.1.0 in
+    let is : qs ≡ before ++ p ∷ after = f.1.1 in
+    let less : (weight : ℕ × ℕ → ℕ) → sum_by weight ps ≡ sum_by weight (before ++ after) = λ weight.
+        omega (arith, same weight, sum_by-cons weight p ps, ap (sum_by weight) is, sum_by-append weight before (p ∷ after), sum_by-cons weight p after, sum_by-append weight before after) in
+    let rest = permuted ps (before ++ after) less in
+    subst (IsPermutation (p ∷ ps)) (sym is)
+        (IsPermutation-trans (p ∷ ps) (p ∷ (before ++ after)) (before ++ p ∷ after) (IsPermutation-cons p ps (before ++ after) rest)
+          (IsPermutation-sym (before ++ p ∷ after) (p ∷ (before ++ after)) (IsPermutation-middle before p after)))

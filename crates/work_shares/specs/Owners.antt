@@ -1,0 +1,47 @@
+-- The owners of the deques of a deal, in order, and the thefts into them.
+use Rattle.std.specs.Prelude.{◌≡◌, ℕ, ◌+◌, ◌%◌, ◌<◌, ◌≤◌, List, Vec, Some, length, map, slice_get, slice_index, sum_by}
+use Rattle.std.specs.declared.alloc.Global.{Global}
+use Rattle.crossbeam_deque.specs.Handles.{worker_view, worker_deque}
+use Rattle.crossbeam_deque.specs.declared.handles.Worker.{Worker}
+use Rattle.work_shares.specs.declared.entry.View.{View}
+use Rattle.work_shares.specs.declared.entry.Entry.{Entry}
+use Rattle.work_shares.specs.declared.deque.DealRule.{DealRule}
+use Rattle.work_shares.specs.declared.theft.Theft.{Theft}
+use Rattle.work_shares.specs.Entries.{ends}
+use Rattle.work_shares.specs.Thefts.{DequeId, deque_into, got_by}
+
+abbrev pub Owner : Type 0
+Owner = Worker Entry Global View DealRule
+
+-- which deque an owner has, how many parts it has, what was pushed, and what it got by a weight
+abbrev pub deque_of : Owner → DequeId
+deque_of owner = worker_deque owner
+
+abbrev pub parts_of : Owner → ℕ
+parts_of owner = (worker_view owner).parts
+
+abbrev pub pushed_of : Owner → List Entry
+pushed_of owner = (worker_view owner).pushed
+
+abbrev pub owner_got : (Entry → ℕ) → Owner → ℕ
+owner_got weight owner = sum_by weight (worker_view owner).got
+
+-- the thefts of a worker lead into the deques of the workers after it, counted round
+abbrev pub LeadOn : List DequeId → ℕ → List Theft → Type 0
+LeadOn deques worker thefts = (i : ℕ) (d : DequeId) → slice_get (map deque_into thefts) i ≡ Some d → slice_get deques ((worker + 1 + i) % length deques) ≡ Some d
+
+-- the same of all workers
+abbrev pub LeadAllOn : List DequeId → List (Vec Theft Global) → Type 0
+LeadAllOn deques thefts = (worker : ℕ) (own : Vec Theft Global) → slice_get thefts worker ≡ Some own → LeadOn deques worker own.items
+
+-- the owner may take parts back, and has got an end mark
+pub record IsDone (owner : Owner) : Type 0 where
+  pub some : 0 < parts_of owner
+  pub marked : 0 < ends (worker_view owner).got
+
+-- the owners took back so many parts of each deque, and what these got, by each weight
+pub record TookBack (back : ℕ → ℕ) (taken : (Entry → ℕ) → ℕ) (old new : List Owner) : Type 0 where
+  pub deques : map deque_of new ≡ map deque_of old
+  pub pushed : map pushed_of new ≡ map pushed_of old
+  pub parts : (d : ℕ) → d < length old → slice_index (map parts_of new) d ≡ slice_index (map parts_of old) d + back d
+  pub got : (weight : Entry → ℕ) → sum_by (owner_got weight) new ≡ sum_by (owner_got weight) old + taken weight
