@@ -91,6 +91,15 @@ fn two_workers_meet(rt: HostRuntime) -> Result<(), Fail> {
 }
 
 #[test]
+fn two_searchers_meet(rt: HostRuntime) -> Result<(), Fail> {
+    let gate = Meeting::new();
+    let none = table_of(rt.alloc(), 256, &[])?;
+    assert_eq!(rt; search(&rt, rt.alloc(), &none, 2, &gate)?, None);
+    assert!(rt; gate.was_seen());
+    Ok(())
+}
+
+#[test]
 fn a_worker_passes_before_each_block(rt: HostRuntime) -> Result<(), Fail> {
     let gate = Turns::new();
     let shares = mark(&rt, rt.alloc(), 257, 64, 1, &gate)?;
