@@ -13,4 +13,6 @@ pub mod AllBack
 pub mod Counts
 pub mod Permuted
 pub mod Parting
+pub mod Full
 pub mod Ties
+pub mod Settles

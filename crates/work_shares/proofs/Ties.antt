@@ -1,8 +1,10 @@
 -- What the shares of one deal know of each other.
-use Rattle.std.proofs.Common.{◌≡◌, ℕ, zero, suc, ◌+◌, ◌-◌, ◌*◌, ◌%◌, ◌==◌, ◌<◌, ◌≤◌, Bool, true, List, Vec, Global, [], ◌∷◌, ◌++◌, Some, None, IfSome, IsTrue, All, map, get_or, length, replicate, slice_get, slice_index, refl, sym, ap, ◌∙◌, subst, arith}
+use Rattle.std.proofs.Common.{◌≡◌, ℕ, zero, suc, ◌+◌, ◌-◌, ◌*◌, ◌%◌, ◌==◌, ◌<◌, ◌≤◌, List, Vec, Global, [], ◌∷◌, ◌++◌, Some, None, IfSome, IsTrue, All, map, get_or, length, replicate, slice_get, slice_index, refl, sym, ap, ◌∙◌, subst, arith}
 use Rattle.std.specs.List.{sum_by, range_with_len, list_all}
 use Rattle.std.proofs.lemmas.List.{length-map, get_or-map}
 use Rattle.std.proofs.lemmas.Option.{slice_get-get_or, slice_get_within, get_or_from_slice_get}
+use Rattle.std.proofs.lemmas.List.Elements.{All-map, All-weaker}
+use Rattle.std.proofs.lemmas.List.FromFn.{length-map-range_with_len}
 use Rattle.crossbeam_deque.specs.Handles.{worker_view}
 use Rattle.work_shares.specs.declared.share.Share.{Share}
 use Rattle.work_shares.specs.declared.seat.Seat.{Seat}
@@ -10,10 +12,15 @@ use Rattle.work_shares.specs.declared.theft.Theft.{Theft}
 use Rattle.work_shares.specs.declared.entry.Entry.{Entry}
 use Rattle.work_shares.specs.Thefts.{DequeId, deque_into, pushed_into, entries_after}
 use Rattle.work_shares.specs.Ways.{ways_of, ways_from}
+use Rattle.work_shares.specs.Entries.{entries_of}
+use Rattle.work_shares.specs.Seats.{count_of}
+use Rattle.work_shares.specs.Rule.{all_parts}
 use Rattle.work_shares.specs.Places.{Place, ArePlaces}
-use Rattle.work_shares.specs.Owners.{Owner, deque_of, parts_of, pushed_of, LeadOn, LeadAllOn, IsDone}
+use Rattle.work_shares.specs.Owners.{Owner, deque_of, parts_of, pushed_of, LeadOn, LeadAllOn, IsDone, TookBack}
 use Rattle.work_shares.specs.Shares.{place_of, is_ended, AreDeal}
 use Rattle.work_shares.specs.Apart.{own_of, thefts_of}
+use Rattle.work_shares.proofs.AllBack.{lengths_of}
+use Rattle.work_shares.proofs.Full.{ways_full}
 
 -- f of an element of a list of f
 pub slice_get-mapped : {X Y : Type 0} (f : X → Y) (xs : List X) (k : ℕ) (y : Y) → slice_get (map f xs) k ≡ Some y → (x : X) × ((slice_get xs k ≡ Some x) × (f x ≡ y))
@@ -52,8 +59,56 @@ module _ {L : Type 0} where
   done_share : (s : Share L) → IsTrue (is_ended s) → IsDone (own_of s)
   done_share s ended = record {
     some = (let h = s.seated.stands in let p = h.parts in let f = h.few in omega arith);
-    marked = (let m = s.seated.stands.marked in m.over (m.ended ?));
+    marked = (let m = s.seated.stands.marked in m.over (m.ended ended));
   }
 
   pub all_done : (shares : List (Share L)) → All (λ s. IsTrue (is_ended s)) shares → All IsDone (map own_of shares)
-  all_done shares ended = ?
+  all_done shares ended = All-map IsDone own_of shares (All-weaker (λ (s : Share L). IsTrue (is_ended s)) (λ s. IsDone (own_of s)) done_share shares ended)
+
+  -- how many thefts a share has, and how many parts
+  thefts_count : (s : Share L) → length s.seat.thefts.items + 1 ≡ s.seat.workers
+  unfolding entries_after
+  thefts_count s =
+      let h = s.seated.stands in
+      let w = s.seat.workers in
+      let many : length s.seat.thefts.items ≡ w - 1 = sym (length-map s.seat.thefts.items pushed_into) ∙ ap length h.others
+          ∙ length-map-range_with_len (λ i. entries_of (count_of s.seat) w ((s.seat.worker + 1 + i) % w)) 0 (w - 1) in
+      let some = h.worker in
+      omega arith
+
+  -- the shares from one on have as many thefts as there are other workers
+  counts_from : (workers : ℕ) (shares : List (Share L)) → All (λ s. (place_of s).workers ≡ workers) shares → lengths_of (map thefts_of shares) ≡ replicate (length shares) (workers - 1)
+  counts_from workers [] each = refl
+  counts_from workers (s ∷ ss) each =
+      let head : (place_of s).workers ≡ workers = each 0 s (omega arith) in
+      let n : length s.seat.thefts.items ≡ workers - 1 = (let c = thefts_count s in omega arith) in
+      ap (λ k. k ∷ lengths_of (map thefts_of ss)) n ∙ ap (λ l. (workers - 1) ∷ l) (counts_from workers ss (λ k d lt. each (suc k) d (omega arith)))
+
+  pub workers_same : (total size : ℕ) (shares : List (Share L)) → AreDeal total size shares → All (λ s. (place_of s).workers ≡ length shares) shares
+  workers_same total size shares deal k d lt = (place_at total size shares deal k (get_or shares k d) (slice_get-get_or shares k d lt)).2
+
+  parts_at : (workers : ℕ) (shares : List (Share L)) (k : ℕ) → All (λ s. (place_of s).workers ≡ workers) shares → k < length shares → slice_index (map parts_of (map own_of shares)) k + workers ≡ 9
+  parts_at workers [] k each lt = absurd (omega arith)
+  parts_at workers (s ∷ ss) zero each lt = let w : (place_of s).workers ≡ workers = each 0 s (omega arith) in let p = s.seated.stands.parts in omega arith
+  parts_at workers (s ∷ ss) (suc k) each lt = parts_at workers ss k (λ j d below. each (suc j) d (omega arith)) (omega arith)
+
+  -- with what comes back each owner has every part
+  pub parts_whole : (total size : ℕ) (shares : List (Share L)) (d : ℕ) → AreDeal total size shares → d < length shares
+      → slice_index (map parts_of (map own_of shares)) d + ways_from (length shares) d 0 (lengths_of (map thefts_of shares)) ≡ 8
+  parts_whole total size shares d deal lt =
+      let few : length shares ≤ 8 = (let f = deal.few in omega (arith, length-map shares place_of)) in
+      let ways = ap (ways_from (length shares) d 0) (counts_from (length shares) shares (workers_same total size shares deal)) in
+      let full = ways_full (length shares) d few lt in
+      let rest = parts_at (length shares) shares d (workers_same total size shares deal) lt in
+      omega arith
+
+  -- the owners have every part once all is taken back
+  pub owners_whole : (total size : ℕ) (shares : List (Share L)) (got : (Entry → ℕ) → ℕ) (new : List Owner) → AreDeal total size shares
+      → TookBack (λ d. ways_from (length (map own_of shares)) d 0 (lengths_of (map thefts_of shares))) got (map own_of shares) new → All (λ o. parts_of o ≡ all_parts) new
+  owners_whole total size shares got new deal took k d lt =
+      let same : length (map own_of shares) ≡ length shares = length-map shares own_of in
+      let wide : length new ≡ length shares = sym (length-map new deque_of) ∙ ap length took.deques ∙ length-map (map own_of shares) deque_of ∙ same in
+      let below : k < length (map own_of shares) = omega arith in
+      let ways : ways_from (length (map own_of shares)) k 0 (lengths_of (map thefts_of shares)) ≡ ways_from (length shares) k 0 (lengths_of (map thefts_of shares)) = ap (λ n. ways_from n k 0 (lengths_of (map thefts_of shares))) same in
+      let whole = parts_whole total size shares k deal (omega arith) in
+      sym (get_or-map parts_of new k d 0 lt) ∙ took.parts k below ∙ ap (λ n. slice_index (map parts_of (map own_of shares)) k + n) ways ∙ whole

@@ -1,0 +1,73 @@
+use Rattle.std.proofs.Common.{rules, ◌≡◌, ◌+◌, ◌<◌, ℕ, List, [], ◌∷◌, Vec, Global, Some, IfSome, All, IsPermutation, map, flat_map, get_or, length, vec_len, slice_get, slice_index, refl, sym, ap, ◌∙◌, subst, arith}
+use Rattle.std.proofs.lemmas.List.{length-map, get_or-map}
+use Rattle.crossbeam_deque.specs.Handles.{worker_view}
+use Rattle.work_shares.specs.declared.block.Block.{Block}
+use Rattle.work_shares.specs.declared.theft.Theft.{Theft}
+use Rattle.work_shares.specs.declared.share.Share.{Share}
+use Rattle.work_shares.specs.Cuts.{dealt}
+use Rattle.work_shares.specs.Blocks.{extents_of}
+use Rattle.work_shares.specs.Rule.{GotAll}
+use Rattle.work_shares.specs.Owners.{Owner, parts_of, deque_of, LeadAllOn, IsDone, TookBack}
+use Rattle.work_shares.specs.Ways.{ways_from}
+use Rattle.work_shares.specs.Shares.{place_of, noted_by, AreDeal}
+use Rattle.work_shares.specs.Apart.{own_of, thefts_of, notes_of}
+use Rattle.work_shares.proofs.AllBack.{lengths_of, all_got}
+use Rattle.work_shares.proofs.Ties.{place_at, all_lead, all_done, owners_whole}
+use Rattle.work_shares.proofs.Settles.{once_dealt}
+use Rattle.work_shares.proofs.settling.settle.Goals as goal
+
+-- what holds of each share of a deal holds of the first one
+first_of : {L : Type 0} (P : Share L → Type 0) (shares : List (Share L)) → ((s : Share L) → slice_get shares 0 ≡ Some s → P s) → IfSome (slice_get shares 0) P
+first_of P [] each = tt
+first_of P (s ∷ ss) each = each s refl
+
+-- the blocks of the notes of shares
+blocks_are : {L : Type 0} (shares : List (Share L)) (notes : List (Vec Block Global)) → notes ≡ map notes_of shares → map (λ (own : Vec Block Global). own.items) notes ≡ map noted_by shares
+blocks_are shares notes is = ap (map (λ (own : Vec Block Global). own.items)) is ∙ notes_are shares where
+  notes_are : {L : Type 0} (shares : List (Share L)) → map (λ (own : Vec Block Global). own.items) (map notes_of shares) ≡ map noted_by shares
+  notes_are [] = refl
+  notes_are (s ∷ ss) = ap (λ l. noted_by s ∷ l) (notes_are ss)
+
+-- what was taken back, of the lists that these are
+took_from : (owners was new : List Owner) (thefts given : List (Vec Theft Global)) → was ≡ owners → given ≡ thefts → TookBack (λ d. ways_from (length was) d 0 (lengths_of given)) (λ weight. all_got weight given) was new
+    → TookBack (λ d. ways_from (length owners) d 0 (lengths_of thefts)) (λ weight. all_got weight thefts) owners new
+took_from owners was new thefts given a b t =
+    subst (λ (os : List Owner). TookBack (λ d. ways_from (length os) d 0 (lengths_of thefts)) (λ weight. all_got weight thefts) os new) a
+        (subst (λ (ts : List (Vec Theft Global)). TookBack (λ d. ways_from (length was) d 0 (lengths_of ts)) (λ weight. all_got weight ts) was new) b t)
+
+pub parted-owners-requires-clause-first : goal.parted-owners-requires-clause-first
+parted-owners-requires-clause-first g c =
+    let d = c.requires.deal in
+    first_of (λ (s : Share g.row.L.Denot). s.seat.worker ≡ 0) c.args.shares.items (λ s e. (place_at d.0 d.1.0 c.args.shares.items d.1.1 0 s e).3)
+
+pub parted-owners-requires-clause-room : goal.parted-owners-requires-clause-room
+parted-owners-requires-clause-room g c =
+    let d = c.requires.deal in
+    let len : length c.args.shares.items ≡ vec_len c.args.shares = search rules in
+    first_of (λ (s : Share g.row.L.Denot). s.seat.workers ≡ vec_len c.args.shares) c.args.shares.items (λ s e. (place_at d.0 d.1.0 c.args.shares.items d.1.1 0 s e).2 ∙ len)
+
+pub take_back_all-requires-clause-ways : goal.take_back_all-requires-clause-ways
+take_back_all-requires-clause-ways g c =
+    let d = c.requires.deal in
+    let e = c.parted-owners.ensures in
+    let P : List Owner → Type 0 = λ l. LeadAllOn (map deque_of l) c.parted-owners.result.thefts.items in
+    let Q : List (Vec Theft Global) → Type 0 = λ l. LeadAllOn (map deque_of (map own_of c.args.shares.items)) l in
+    subst P (sym e.owners) (subst Q (sym e.thefts) (all_lead d.0 d.1.0 c.args.shares.items d.1.1))
+
+pub take_back_all-requires-clause-done : goal.take_back_all-requires-clause-done
+take_back_all-requires-clause-done g c = subst (All IsDone) (sym c.parted-owners.ensures.owners) (all_done c.args.shares.items c.requires.ended)
+
+pub learn_all-requires : goal.learn_all-requires
+learn_all-requires g c =
+    let d = c.requires.deal in
+    owners_whole d.0 d.1.0 c.args.shares.items _ c.take_back_all.new.owners.items d.1.1
+        (took_from (map own_of c.args.shares.items) c.parted-owners.result.owners.items c.take_back_all.new.owners.items (map thefts_of c.args.shares.items) c.parted-owners.result.thefts.items c.parted-owners.ensures.owners c.parted-owners.ensures.thefts c.take_back_all.ensures.took)
+
+pub returns-clause-blocks : goal.returns-clause-blocks
+returns-clause-blocks g c = blocks_are c.args.shares.items c.parted-owners.result.notes.items c.parted-owners.ensures.notes
+
+pub returns-clause-once : goal.returns-clause-once
+returns-clause-once g c total block deal =
+    let took = took_from (map own_of c.args.shares.items) c.parted-owners.result.owners.items c.take_back_all.new.owners.items (map thefts_of c.args.shares.items) c.parted-owners.result.thefts.items c.parted-owners.ensures.owners c.parted-owners.ensures.thefts c.take_back_all.ensures.took in
+    let once = once_dealt total block c.args.shares.items _ c.take_back_all.new.owners.items deal took c.take_back_all.ensures.done c.learn_all.ensures.all in
+    subst (λ (l : List (List Block)). IsPermutation (dealt total block) (flat_map extents_of l)) (sym (blocks_are c.args.shares.items c.parted-owners.result.notes.items c.parted-owners.ensures.notes)) once
