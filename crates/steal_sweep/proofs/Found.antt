@@ -1,5 +1,5 @@
 -- From what all seats know to the least hit.
-use Rattle.std.proofs.Common.{◌≡◌, ℕ, ◌+◌, ◌^◌, ◌<◌, ◌≤◌, ◌⊎◌, Bool, true, false, List, [], ◌∷◌, All, Contains, length, map, flat_map, get_or, sum_by, slice_index, refl, sym, ap, ◌∙◌, subst, inl, inr, ⊎_elim, arith}
+use Rattle.std.proofs.Common.{◌≡◌, ℕ, ◌^◌, ◌<◌, ◌≤◌, ◌⊎◌, Bool, true, false, List, [], ◌∷◌, All, Contains, map, flat_map, sum_by, slice_index, refl, sym, ap, ◌∙◌, subst, ⊎_elim, arith}
 use Rattle.std.specs.List.{range_with_len}
 use Rattle.std.specs.List.Sorted.{IsPermutation}
 use Rattle.std.proofs.lemmas.List.Elements.{All-nil, All-map, All-same, All-contains}
@@ -14,10 +14,10 @@ use Rattle.steal_sweep.specs.declared.rule.Known.{Known}
 use Rattle.steal_sweep.specs.declared.best.Best.{Best}
 use Rattle.steal_sweep.specs.declared.best.BestSeat.{BestSeat}
 use Rattle.steal_sweep.specs.declared.search.Seeker.{Seeker}
-use Rattle.steal_sweep.specs.BestRule.{known, none_yet}
+use Rattle.steal_sweep.specs.BestRule.{none_yet}
 use Rattle.steal_sweep.specs.Positions.{positions_in}
 use Rattle.steal_sweep.specs.Searches.{IsHit, IsLeastHit, Covers}
-use Rattle.steal_sweep.specs.Seats.{IsSeatOf, AreNewSeatsOf, known_by}
+use Rattle.steal_sweep.specs.Seats.{AreNewSeatsOf, known_by}
 use Rattle.steal_sweep.proofs.Dealt.{whole_deal}
 use Rattle.steal_sweep.proofs.Lists.{All-from_map, sum_by-map}
 use Rattle.steal_sweep.proofs.Ranges.{in_range}

@@ -7,9 +7,9 @@ use mathlib.Core.Option.{none, some, some-injective, some-ne-none}
 use native.Mathlib.Decide.{ℕ_discrete, dec_le}
 use lib.ListN.{get_elem?}
 use Rattle.atomic_table.specs.Table.{State, Me, step, keeps, stepped, Allows, Splits, Joins, opening}
-use Rattle.atomic_table.proofs.Lists.{at_set, set_else, set_here}
+use Rattle.atomic_table.proofs.Lists.{set_else, set_here}
 use Rattle.steal_sweep.specs.declared.rule.Known.{Known}
-use Rattle.steal_sweep.specs.BestRule.{known, none_yet, all_parts, WasPut, Bounds, Leads, Looked, PutThere}
+use Rattle.steal_sweep.specs.BestRule.{known, none_yet, WasPut, Bounds, Leads, Looked, PutThere}
 use Rattle.steal_sweep.proofs.Views.{found_at, parts_set, parts_snoc, parts_two, bounds_set, bounds_snoc, bounds_fall, put_set, put_snoc}
 
 -- the one seat of a new word

@@ -1,5 +1,5 @@
 -- The best word and its seats.
-use Rattle.std.specs.Prelude.{◌≡◌, ℕ, List, [], All, sum_by}
+use Rattle.std.specs.Prelude.{◌≡◌, List, [], All, sum_by}
 use Rattle.atomic_table.specs.Seated.{TableId}
 use Rattle.steal_sweep.specs.declared.rule.Known.{Known}
 use Rattle.steal_sweep.specs.declared.best.Best.{Best}

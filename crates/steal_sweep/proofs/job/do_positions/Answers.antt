@@ -1,4 +1,4 @@
-use Rattle.std.proofs.Common.{ℕ, ◌+◌, ◌-◌, List, ◌++◌, ◌∙◌, subst, arith}
+use Rattle.std.proofs.Common.{ℕ, ◌-◌, List, ◌++◌, ◌∙◌, subst, arith}
 use Rattle.std.specs.List.{range_with_len}
 use Rattle.steal_sweep.proofs.Ranges.{one_more, in_range}
 use Rattle.steal_sweep.proofs.job.do_positions.Goals as goal

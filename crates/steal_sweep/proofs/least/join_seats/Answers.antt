@@ -1,5 +1,3 @@
-use Rattle.std.proofs.Common.{ap}
-use Rattle.std.proofs.lemmas.List.Elements.{All-contains, Contains-push}
 use Rattle.steal_sweep.proofs.Joined.{joined_first, joined_next, last_of}
 use Rattle.steal_sweep.proofs.least.join_seats.Goals as goal
 

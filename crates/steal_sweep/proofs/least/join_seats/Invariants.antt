@@ -1,4 +1,4 @@
-use Rattle.std.proofs.Common.{ℕ, length}
+use Rattle.std.proofs.Common.{length}
 use Rattle.steal_sweep.proofs.Joined.{Joined}
 use Rattle.steal_sweep.proofs.least.join_seats.Given as goal
 

@@ -1,10 +1,8 @@
-use Rattle.std.proofs.Common.{rules, ◌≡◌, ℕ, ◌+◌, ◌<◌, ◌≤◌, List, [], ◌∷◌, All, Contains, length, map, get_or, sum_by, true, refl, sym, ap, ◌∙◌, subst, arith}
+use Rattle.std.proofs.Common.{rules, ◌≡◌, ℕ, ◌<◌, [], length, map, get_or, ◌∙◌}
 use Rattle.std.proofs.lemmas.List.Elements.{All-map, All-same}
 use Rattle.work_shares.specs.declared.share.Share.{Share}
-use Rattle.work_shares.specs.Shares.{noted_by, load_of, blocks_of}
+use Rattle.work_shares.specs.Shares.{load_of, blocks_of}
 use Rattle.steal_sweep.specs.declared.search.Seeker.{Seeker}
-use Rattle.steal_sweep.specs.Positions.{positions_in}
-use Rattle.steal_sweep.specs.Searches.{IsHit, Covers}
 use Rattle.steal_sweep.specs.Seats.{IsSeatOf, known_by}
 use Rattle.steal_sweep.proofs.Lists.{All-from_map}
 use Rattle.steal_sweep.proofs.Dealt.{deal_size}

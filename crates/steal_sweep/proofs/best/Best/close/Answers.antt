@@ -1,4 +1,4 @@
-use Rattle.std.proofs.Common.{◌≡◌, ◌⊎◌, ◌≤◌, ℕ, List, Contains, get_or, ap, sym, ◌∙◌, subst}
+use Rattle.std.proofs.Common.{◌≡◌, ◌⊎◌, ◌≤◌, ℕ, List, Contains, get_or, ap, ◌∙◌, subst}
 use Rattle.std.specs.Mem.Slots.{slots_items}
 use Rattle.steal_sweep.specs.BestRule.{none_yet}
 use Rattle.steal_sweep.proofs.Leading.{closes, read_first}

@@ -1,4 +1,4 @@
-use Rattle.std.proofs.Common.{rules, ◌≡◌, ◌⊎◌, ◌≤◌, ℕ, List, sym, ap, ◌∙◌, subst, arith}
+use Rattle.std.proofs.Common.{rules, arith}
 use Rattle.steal_sweep.proofs.Leading.{puts}
 use Rattle.steal_sweep.proofs.best.Best.put.Goals as goal
 

@@ -1,4 +1,4 @@
-use Rattle.std.proofs.Common.{rules, ◌≡◌, ◌⊎◌, ◌≤◌, ℕ, List, sym, ap, ◌∙◌, subst, arith}
+use Rattle.std.proofs.Common.{rules, arith}
 use Rattle.steal_sweep.proofs.Leading.{splits}
 use Rattle.steal_sweep.proofs.best.Best.split.Goals as goal
 
