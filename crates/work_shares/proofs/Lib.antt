@@ -16,3 +16,11 @@ pub mod Parting
 pub mod Full
 pub mod Ties
 pub mod Settles
+pub mod Steps
+pub mod Pushing
+pub mod LendingOne
+pub mod LendingAll
+pub mod Rotated
+pub mod Fresh
+pub mod Handing
+pub mod Ready

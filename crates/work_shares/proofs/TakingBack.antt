@@ -55,7 +55,7 @@ same_or_other : (a b : ℕ) → (a ≡ b) ⊎ (a ≢ b)
 same_or_other a b = ⊎_elim (λ lt. inr (λ e. absurd (omega arith))) (λ le. ⊎_elim (λ lt. inr (λ e. absurd (omega arith))) (λ le'. inl (omega arith)) (cases_lt b a)) (cases_lt a b)
 
 -- the part of one theft comes back to the owner of its deque
-parts_step : (workers worker n at : ℕ) (parts : List ℕ) (p d : ℕ) → at < length parts → (worker + 1 + n) % workers ≡ at → p ≡ get_or parts at 0 + 1
+pub parts_step : (workers worker n at : ℕ) (parts : List ℕ) (p d : ℕ) → at < length parts → (worker + 1 + n) % workers ≡ at → p ≡ get_or parts at 0 + 1
     → get_or (set parts at p) d 0 + ways_of workers d worker n ≡ get_or parts d 0 + ways_of workers d worker (suc n)
 unfolding ways_of
 parts_step workers worker n at parts p d lt is more = ⊎_elim

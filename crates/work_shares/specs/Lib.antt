@@ -9,5 +9,6 @@ pub mod Places
 pub mod Ways
 pub mod Owners
 pub mod Parts
+pub mod Lending
 pub mod Shares
 pub mod Apart

@@ -1,13 +1,14 @@
 -- The owners of the deques of a deal, in order, and the thefts into them.
-use Rattle.std.specs.Prelude.{◌≡◌, ℕ, ◌+◌, ◌%◌, ◌<◌, ◌≤◌, List, Vec, Some, length, map, slice_get, slice_index, sum_by}
+use Rattle.std.specs.Prelude.{◌≡◌, ℕ, ◌+◌, ◌%◌, ◌<◌, ◌≤◌, List, [], Vec, Some, length, map, slice_get, slice_index, sum_by}
 use Rattle.std.specs.declared.alloc.Global.{Global}
-use Rattle.crossbeam_deque.specs.Handles.{worker_view, worker_deque}
+use Rattle.crossbeam_deque.specs.Handles.{worker_view, worker_deque, worker_flavor}
 use Rattle.crossbeam_deque.specs.declared.handles.Worker.{Worker}
 use Rattle.work_shares.specs.declared.entry.View.{View}
 use Rattle.work_shares.specs.declared.entry.Entry.{Entry}
 use Rattle.work_shares.specs.declared.deque.DealRule.{DealRule}
 use Rattle.work_shares.specs.declared.theft.Theft.{Theft}
-use Rattle.work_shares.specs.Entries.{ends}
+use Rattle.work_shares.specs.Entries.{ends, entries_of}
+use Rattle.work_shares.specs.Rule.{all_parts}
 use Rattle.work_shares.specs.Thefts.{DequeId, deque_into, got_by}
 
 abbrev pub Owner : Type 0
@@ -25,6 +26,28 @@ pushed_of owner = (worker_view owner).pushed
 
 abbrev pub owner_got : (Entry → ℕ) → Owner → ℕ
 owner_got weight owner = sum_by weight (worker_view owner).got
+
+-- nothing was taken from the deque, which gives its first entry first
+pub record IsUntaken (owner : Owner) : Type 0 where
+  pub front : worker_flavor owner ≡ 0
+  pub got : (worker_view owner).got ≡ []
+
+-- the deque was given what is its worker's, and the owner has every part
+pub record IsFilled (count workers worker : ℕ) (owner : Owner) : Type 0 where
+  pub untaken : IsUntaken owner
+  pub pushed : pushed_of owner ≡ entries_of count workers worker
+  pub whole : parts_of owner ≡ all_parts
+
+-- the same of the first workers, in order
+pub record AreFilled (count workers n : ℕ) (owners : List Owner) : Type 0 where
+  pub length_is : length owners ≡ n
+  pub each : (worker : ℕ) (owner : Owner) → slice_get owners worker ≡ Some owner → IsFilled count workers worker owner
+
+-- the deque was given what is its worker's, nothing was taken, and each other worker has a part
+pub record IsReady (count workers worker : ℕ) (owner : Owner) : Type 0 where
+  pub untaken : IsUntaken owner
+  pub pushed : pushed_of owner ≡ entries_of count workers worker
+  pub parts : parts_of owner + workers ≡ 9
 
 -- the thefts of a worker lead into the deques of the workers after it, counted round
 abbrev pub LeadOn : List DequeId → ℕ → List Theft → Type 0

@@ -1,5 +1,5 @@
 //! Blocks of positions, and how a total is cut into them.
-ghost use Rattle.std.specs.Prelude.{◌≡◌, ◌+◌, ◌^◌, ◌<◌};
+ghost use Rattle.std.specs.Prelude.{◌≡◌, ◌+◌, ◌^◌, ◌<◌, ◌≤◌};
 ghost use Rattle.work_shares.specs.Cuts.{block_count};
 
 /// The positions from `first` on, `count` of them.
@@ -16,7 +16,7 @@ pub struct Cut {
     pub total: u64,
     pub size: u32,
     pub ghost some: { 0 < size },
-    pub ghost few: { block_count total size < 2 ^ 32 },
+    pub ghost few: { block_count total size ≤ 2 ^ 24 },
 }
 
 impl Cut {
