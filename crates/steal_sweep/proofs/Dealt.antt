@@ -1,5 +1,5 @@
 -- The positions of dealt blocks.
-use Rattle.std.proofs.Common.{◌≡◌, ℕ, ◌<◌, List, [], ◌∷◌, All, Contains, flat_map, refl, sym, subst, arith}
+use Rattle.std.proofs.Common.{ℕ, ◌+◌, ◌<◌, ◌≤◌, List, [], ◌∷◌, All, Contains, flat_map, refl, subst, arith}
 use Rattle.std.specs.List.{range_with_len}
 use Rattle.std.specs.List.Sorted.{IsPermutation}
 use Rattle.std.proofs.lemmas.List.Elements.{All-contains}
@@ -9,7 +9,7 @@ use Rattle.work_shares.specs.declared.share.Share.{Share}
 use Rattle.work_shares.specs.Cuts.{dealt, positions_of}
 use Rattle.work_shares.specs.Blocks.{extents_of}
 use Rattle.work_shares.specs.Shares.{place_of, AreDeal}
-use Rattle.work_shares.proofs.Cover.{dealt-cover}
+use Rattle.work_shares.proofs.Cover.{dealt-cover, dealt-within}
 use Rattle.steal_sweep.specs.Positions.{positions_in}
 use Rattle.steal_sweep.proofs.Lists.{All-flat_map, All-from_flat_map}
 
@@ -21,12 +21,9 @@ pub deal_size : {L : Type 0} (total size : ℕ) (shares : List (Share L)) → Ar
 deal_size total size [] are = absurd (let s = are.some in omega arith)
 deal_size total size (s ∷ ss) are = subst (λ (n : ℕ). 0 < n) (are.each 0 (place_of s) refl).1 (place_size s)
 
--- the positions of a dealt block are those of the deal
-pub own_within : (P : ℕ → Type 0) (total dealt_total size first count : ℕ) → 0 < size → dealt_total ≡ total → Contains (dealt dealt_total size) (first, count) → All P (range_with_len 0 total)
-    → All P (range_with_len first count)
-own_within P total dealt_total size first count some same has all =
-    let whole : All P (flat_map positions_of (dealt dealt_total size)) = subst (All P) (sym (dealt-cover dealt_total size some)) (subst (λ (n : ℕ). All P (range_with_len 0 n)) (sym same) all) in
-    All-contains (λ block. All P (positions_of block)) (dealt dealt_total size) (first, count) (All-from_flat_map positions_of P (dealt dealt_total size) whole) has
+-- a dealt block ends within the deal
+pub block_within : (total size first count : ℕ) → 0 < size → Contains (dealt total size) (first, count) → first + count ≤ total
+block_within total size first count some has = All-contains (λ block. block.0 + block.1 ≤ total) (dealt total size) (first, count) (dealt-within total size some) has
 
 -- what holds of each position of the blocks that workers took, which are those dealt, holds of each position of the deal
 pub whole_deal : (P : ℕ → Type 0) (total size : ℕ) (taken : List (List Block)) → 0 < size → IsPermutation (dealt total size) (flat_map extents_of taken) → All (λ blocks. All P (positions_in blocks)) taken → All P (range_with_len 0 total)

@@ -1,9 +1,7 @@
 -- From what all seats know to the least hit.
 use Rattle.std.proofs.Common.{◌≡◌, ℕ, ◌^◌, ◌<◌, ◌≤◌, ◌⊎◌, Bool, true, false, List, [], ◌∷◌, All, Contains, map, flat_map, sum_by, slice_index, refl, sym, ap, ◌∙◌, subst, ⊎_elim, arith}
-use Rattle.std.specs.List.{range_with_len}
 use Rattle.std.specs.List.Sorted.{IsPermutation}
 use Rattle.std.proofs.lemmas.List.Elements.{All-nil, All-map, All-same, All-contains}
-use Rattle.std.proofs.lemmas.List.FromFn.{length-range_with_len, get_or-range_with_len}
 use Rattle.work_shares.specs.declared.block.Block.{Block}
 use Rattle.work_shares.specs.declared.share.Share.{Share}
 use Rattle.work_shares.specs.declared.settling.Settled.{Settled}
@@ -21,13 +19,6 @@ use Rattle.steal_sweep.specs.Seats.{AreNewSeatsOf, known_by}
 use Rattle.steal_sweep.proofs.Dealt.{whole_deal}
 use Rattle.steal_sweep.proofs.Lists.{All-from_map, sum_by-map}
 use Rattle.steal_sweep.proofs.Ranges.{in_range}
-
--- each position of a deal is below its total
-pub below_total : (n : ℕ) → All (λ p. p < n) (range_with_len 0 n)
-below_total n k d lt =
-    let len = length-range_with_len 0 n in
-    let at = get_or-range_with_len 0 n k d (omega arith) in
-    omega arith
 
 -- a seat that has put nothing covers no position
 pub covers_none : (truth : ℕ → Bool) (total : ℕ) (v : Known) → v.put ≡ [] → Covers truth total v []

@@ -1,6 +1,5 @@
 // A job over all positions of a deal.
 ghost use Rattle.std.specs.Prelude.{◌≡◌, ℕ, ◌<◌, ◌≤◌, [], List, All, IsTrue, map, length, slice_index_or};
-ghost use Rattle.std.specs.List.{range_with_len};
 ghost use Rattle.work_shares.specs.Shares.{AreDeal, IsFresh, place_of, noted_by, is_ended, load_of};
 ghost use Rattle.steal_sweep.specs.Positions.{positions_in};
 
@@ -13,7 +12,7 @@ use work_shares::Share;
 /// One worker's part of a deal: its blocks, until its share has ended.
 fn work<L, J: Job<L>, G: Turnstile>(job: &J, gate: &G, worker: u32, share: &mut Share<L>)
     requires fresh { IsFresh share.old }
-    requires own { All (J.own job.now) (range_with_len 0 (place_of share.old).total) }
+    requires own { (p : ℕ) → p < (place_of share.old).total → J.own job.now p }
     requires stands { J.stands job.now share.old.load [] }
     ensures place { place_of share.new ≡ place_of share.old }
     ensures ended { IsTrue (is_ended share.new) }
@@ -38,7 +37,7 @@ fn work_all<H: Threads + Sync, L: Send, J: Job<L> + Sync, G: Turnstile + Sync>(
     requires some { 0 < length shares.old }
     requires few { length shares.old ≤ 8 }
     requires fresh { All IsFresh shares.old }
-    requires own { All (λ s. All (J.own job.now) (range_with_len 0 (place_of s).total)) shares.old }
+    requires own { All (λ s. (p : ℕ) → p < (place_of s).total → J.own job.now p) shares.old }
     requires stands { All (λ s. J.stands job.now s.load []) shares.old }
     ensures place { (k : ℕ) (d : Share L) → k < length shares.old
         → place_of (slice_index_or shares.new k d) ≡ place_of (slice_index_or shares.old k d) }
@@ -50,7 +49,7 @@ fn work_all<H: Threads + Sync, L: Send, J: Job<L> + Sync, G: Turnstile + Sync>(
     let workers = shares.len();
     let part = |worker: usize, share: &mut Share<L>|
         requires { (worker < 8) × IsFresh share.old × J.stands job.now share.old.load []
-            × All (J.own job.now) (range_with_len 0 (place_of share.old).total) }
+            × ((p : ℕ) → p < (place_of share.old).total → J.own job.now p) }
     { work(job, gate, worker as u32, share) };
     thread::for_each_mut(th, shares, workers, &part);
 }
@@ -67,7 +66,7 @@ pub fn for_each<H: Threads + Sync, L: Send, J: Job<L> + Sync, G: Turnstile + Syn
     gate: &G,
 )
     requires deal { (total : ℕ) × ((block : ℕ) × AreDeal total block shares.old.items
-        × All (J.own job.now) (range_with_len 0 total)) }
+        × ((p : ℕ) → p < total → J.own job.now p)) }
     requires fresh { All IsFresh shares.old.items }
     requires stands { All (λ local. J.stands job.now local []) (map load_of shares.old.items) }
     ensures deal { (total block : ℕ) → AreDeal total block shares.old.items

@@ -1,5 +1,5 @@
 // A job, and the positions that it is done at.
-ghost use Rattle.std.specs.Prelude.{◌≡◌, ℕ, ◌<◌, ◌≤◌, ◌+◌, ◌^◌, [], ◌∷◌, ◌++◌, List, All};
+ghost use Rattle.std.specs.Prelude.{◌≡◌, ℕ, ◌<◌, ◌≤◌, ◌+◌, ◌^◌, [], ◌∷◌, ◌++◌, List};
 ghost use Rattle.std.specs.List.{range_with_len};
 
 /// What is done at each position of a deal.
@@ -25,7 +25,7 @@ pub trait Job<L> {
 /// Does `count` positions from `first` on.
 pub(crate) fn do_positions<L, J: Job<L>>(job: &J, local: &mut L, first: u64, count: u32)
     requires room { first + count < 2 ^ 64 }
-    requires own { All (J.own job.now) (range_with_len first count) }
+    requires own { (p : ℕ) → first ≤ p → p < first + count → J.own job.now p }
     requires stands { (done : List ℕ) × J.stands job.now local.old done }
     ensures stands { (done : List ℕ) → J.stands job.now local.old done
         → J.stands job.now local.new (done ++ range_with_len first count) }

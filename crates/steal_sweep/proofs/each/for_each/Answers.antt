@@ -1,5 +1,4 @@
-use Rattle.std.proofs.Common.{◌≡◌, ℕ, ◌<◌, List, [], All, map, length, get_or, sym, ap, ◌∙◌, subst}
-use Rattle.std.specs.List.{range_with_len}
+use Rattle.std.proofs.Common.{◌≡◌, ℕ, ◌<◌, List, [], All, map, length, get_or, sym, ap, ◌∙◌, subst, arith}
 use Rattle.work_shares.specs.declared.share.Share.{Share}
 use Rattle.work_shares.specs.Shares.{AreDeal, place_of, load_of}
 use Rattle.work_shares.proofs.Kept.{AreDeal-kept, map-same}
@@ -11,8 +10,9 @@ work_all-requires-clause-own g c κs within =
     let S : Type 0 = Share g.row.L.Denot in
     let own = g.J.Job.own c.args.job.now in
     let is = c.as_mut_slice.ensures.value in
-    let P : S → Type 0 = λ s. All own (range_with_len 0 (place_of s).total) in
-    let each : All P c.args.shares.now.items = λ k d lt. subst (λ (n : ℕ). All own (range_with_len 0 n)) (sym (c.requires.deal.1.1.each k _ (at_map (place_of {L = g.row.L.Denot}) c.args.shares.now.items k d lt)).0) c.requires.deal.1.2 in
+    let P : S → Type 0 = λ s. (p : ℕ) → p < (place_of s).total → own p in
+    let each : All P c.args.shares.now.items = λ k d lt p below.
+    (let same = (c.requires.deal.1.1.each k _ (at_map (place_of {L = g.row.L.Denot}) c.args.shares.now.items k d lt)).0 in c.requires.deal.1.2 p (omega arith)) in
     subst (All P) (sym is) each
 
 pub work_all-requires-clause-stands : goal.work_all-requires-clause-stands

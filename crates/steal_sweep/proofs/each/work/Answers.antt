@@ -1,7 +1,10 @@
-use Rattle.std.proofs.Common.{ap}
+use Rattle.std.proofs.Common.{ap, arith}
 use Rattle.work_shares.specs.Places.{Place}
-use Rattle.steal_sweep.proofs.Dealt.{own_within, place_size}
+use Rattle.steal_sweep.proofs.Dealt.{block_within, place_size}
 use Rattle.steal_sweep.proofs.each.work.Goals as goal
 
 pub do_positions-requires-clause-own : goal.do_positions-requires-clause-own
-do_positions-requires-clause-own g c = own_within (g.J.Job.own c.args.job.now) _ _ _ _ _ (place_size c.loop-block.share) (ap (λ (p : Place). p.total) c.loop-block.invariant.place) c.in-Some.ensures.dealt c.requires.own
+do_positions-requires-clause-own g c p low high =
+    let within = block_within _ _ _ _ (place_size c.loop-block.share) c.in-Some.ensures.dealt in
+    let same = ap (λ (q : Place). q.total) c.loop-block.invariant.place in
+    c.requires.own p (omega arith)

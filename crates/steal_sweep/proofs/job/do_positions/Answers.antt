@@ -1,13 +1,10 @@
 use Rattle.std.proofs.Common.{ℕ, ◌-◌, List, ◌++◌, ◌∙◌, subst, arith}
 use Rattle.std.specs.List.{range_with_len}
-use Rattle.steal_sweep.proofs.Ranges.{one_more, in_range}
+use Rattle.steal_sweep.proofs.Ranges.{one_more}
 use Rattle.steal_sweep.proofs.job.do_positions.Goals as goal
 
 pub turn-requires-clause-own : goal.turn-requires-clause-own
-turn-requires-clause-own g c =
-    let from = c.loop-position.invariant.from in
-    let to = c.loop-position-test.true in
-    in_range (g.J.Job.own c.args.job.now) c.args.first c.args.count c.loop-position.position from (omega arith) c.requires.own
+turn-requires-clause-own g c = c.requires.own c.loop-position.position c.loop-position.invariant.from (omega arith)
 
 pub loop-position-preserved : goal.loop-position-preserved
 loop-position-preserved g c =

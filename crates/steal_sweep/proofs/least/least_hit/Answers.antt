@@ -6,11 +6,11 @@ use Rattle.steal_sweep.specs.declared.search.Seeker.{Seeker}
 use Rattle.steal_sweep.specs.Seats.{IsSeatOf, known_by}
 use Rattle.steal_sweep.proofs.Lists.{All-from_map}
 use Rattle.steal_sweep.proofs.Dealt.{deal_size}
-use Rattle.steal_sweep.proofs.Found.{below_total, covers_none, carried_by, parts_whole, no_hit_below, put_hits, word_is_least, none_below}
+use Rattle.steal_sweep.proofs.Found.{covers_none, carried_by, parts_whole, no_hit_below, put_hits, word_is_least, none_below}
 use Rattle.steal_sweep.proofs.least.least_hit.Goals as goal
 
 pub for_each-requires-clause-deal : goal.for_each-requires-clause-deal
-for_each-requires-clause-deal g c κs within = (c.args.sweep.now.total, (c.requires.deal.0, c.requires.deal.1, below_total c.args.sweep.now.total))
+for_each-requires-clause-deal g c κs within = (c.args.sweep.now.total, (c.requires.deal.0, c.requires.deal.1, λ p lt. lt))
 
 pub for_each-requires-clause-stands : goal.for_each-requires-clause-stands
 for_each-requires-clause-stands g c κs within k d lt =
