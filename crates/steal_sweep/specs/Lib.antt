@@ -1,0 +1,5 @@
+pub mod BestRule
+pub mod Positions
+pub mod Searches
+pub mod Seats
+pub mod Tests

@@ -1,0 +1,109 @@
+ghost use Rattle.std.specs.Prelude.{◌≡◌, ◌<◌, length, IfOk};
+
+mod gates;
+mod marks;
+mod tables;
+
+use crate::OpenWay;
+use gates::{Delays, Meeting, Turns, mixed};
+use marks::mark;
+use std::alloc::{AllocError, Global};
+use std::test::Fail;
+use tables::search;
+use work_shares::Share;
+
+/// Truth values of the positions below `total`: true at the hits.
+fn table_of(alloc: Global, total: u64, hits: &[u64]) -> Result<Vec<bool>, AllocError>
+    ensures { IfOk result (λ v. length v.items ≡ total) }
+{
+    (0..total)
+        .map(|position| hits.contains(&position))
+        .collect(alloc)
+}
+
+/// Truth values by a seed, of which about one in 300 is true, or none.
+fn table_by(alloc: Global, seed: u64) -> Result<Vec<bool>, AllocError>
+    ensures { IfOk result (λ v. length v.items < 1200) }
+{
+    let total = mixed(seed, 0) % 1_200;
+    let rare = if seed % 10 == 0 { u64::MAX } else { 300 };
+    (0..total)
+        .map(|position| mixed(seed, position + 1) % rare == 0)
+        .collect(alloc)
+}
+
+#[test]
+fn the_least_of_three_hits(rt: HostRuntime) -> Result<(), Fail> {
+    let truths = table_of(rt.alloc(), 1000, &[700, 701, 130])?;
+    assert_eq!(rt; search(&rt, rt.alloc(), &truths, 4, &OpenWay)?, Some(130));
+    let none = table_of(rt.alloc(), 1000, &[])?;
+    assert_eq!(rt; search(&rt, rt.alloc(), &none, 4, &OpenWay)?, None);
+    Ok(())
+}
+
+#[test]
+fn the_least_hit_whatever_the_schedule(rt: HostRuntime) -> Result<(), Fail> {
+    for seed in 0..200u64 {
+        let truths = table_by(rt.alloc(), seed)?;
+        let want = truths.iter().position(|truth| *truth).map(|at| at as u64);
+        for workers in [1, 2, 3, 8u32] {
+            let gate = Delays::new(seed);
+            assert_eq!(rt;
+                search(&rt, rt.alloc(), &truths, workers, &gate)?,
+                want,
+                "seed {seed}, {workers} workers"
+            );
+        }
+    }
+    Ok(())
+}
+
+/// How often a position was marked, in all locals.
+fn marks_at(shares: &[Share<Vec<u64>>], position: u64) -> u64 {
+    shares.iter().fold(0u64, |sum, share| {
+        sum.wrapping_add(share.load.get(position as usize).copied().unwrap_or(0))
+    })
+}
+
+#[test]
+fn each_position_is_done_once(rt: HostRuntime) -> Result<(), Fail> {
+    for seed in 0..1_000u64 {
+        let total = mixed(seed, 1) % 400;
+        let block = (mixed(seed, 2) % 64) as u32 + 1;
+        let workers = (mixed(seed, 3) % 8) as u32 + 1;
+        let shares = mark(&rt, rt.alloc(), total, block, workers, &Delays::new(seed))?;
+        let once = (0..total).all(|position| marks_at(&shares, position) == 1);
+        assert!(rt;
+            once && shares.iter().all(|share| share.ended()),
+            "seed {seed}"
+        );
+    }
+    Ok(())
+}
+
+#[test]
+fn two_workers_meet(rt: HostRuntime) -> Result<(), Fail> {
+    let gate = Meeting::new();
+    let shares = mark(&rt, rt.alloc(), 256, 64, 2, &gate)?;
+    assert_eq!(rt; shares.len(), 2);
+    assert!(rt; gate.was_seen());
+    Ok(())
+}
+
+#[test]
+fn two_searchers_meet(rt: HostRuntime) -> Result<(), Fail> {
+    let gate = Meeting::new();
+    let none = table_of(rt.alloc(), 256, &[])?;
+    assert_eq!(rt; search(&rt, rt.alloc(), &none, 2, &gate)?, None);
+    assert!(rt; gate.was_seen());
+    Ok(())
+}
+
+#[test]
+fn a_worker_passes_before_each_block(rt: HostRuntime) -> Result<(), Fail> {
+    let gate = Turns::new();
+    let shares = mark(&rt, rt.alloc(), 257, 64, 1, &gate)?;
+    assert_eq!(rt; shares.len(), 1);
+    assert_eq!(rt; gate.count(), Some(5));
+    Ok(())
+}
