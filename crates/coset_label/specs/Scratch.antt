@@ -60,10 +60,13 @@ pub record KnowsLeads (m : ChannelGrid) (size : ℕ) (leads : List ℕ) (negativ
   pub signs : length negative ≡ size
   pub settled : AreLeads m leads negative
 
+-- the cell of a row that stands at a place, with its column's sign
+abbrev pub cell_at : (ℕ → Surd) → List Bool → List ℕ → ℕ → Surd
+cell_at cell negative order place = let column = slice_index order place in signed (slice_index_or negative column false) (cell column)
+
 -- the cell at a row and a place of the label
 abbrev pub placed_cell : ChannelGrid → List Bool → List ℕ → ℕ → ℕ → Surd
-placed_cell m negative order row place =
-    let column = slice_index order place in signed (slice_index_or negative column false) (table_of m row column)
+placed_cell m negative order row place = cell_at (λ column. table_of m row column) negative order place
 
 -- whether a column with its sign fixed comes before another in the label's order
 abbrev pub precedes : ChannelGrid → ℕ → ℕ → Bool
