@@ -5,10 +5,15 @@ use Rattle.std.specs.Ordering.{int_eq}
 use Rattle.std.proofs.lemmas.Bool.{cases_eq, true≢false}
 use Rattle.std.proofs.lemmas.List.{get_or-map}
 use Rattle.tc_ring.specs.Surds.{Surd, surd}
-use Rattle.channel_rep.specs.Cells.{ChannelGrid, table_of}
+use Rattle.std.proofs.Common.{lit<}
+use Rattle.std.proofs.Math.Nat.{pow-le-pow_right}
+use Rattle.tc_ring.specs.declared.root2.Root2.{Root2}
+use Rattle.tc_ring.proofs.Surds.{surd_within_more}
+use Rattle.channel_rep.specs.Tables.{signed}
+use Rattle.channel_rep.specs.Cells.{ChannelGrid, RowWithin, cell_of, table_of}
 use Rattle.channel_rep.proofs.OneUnit.{same_by_parts}
 use Rattle.coset_label.specs.Labels.{Column, numbers_from}
-use Rattle.coset_label.specs.Scratch.{IsKept, kept_column, placed_cell}
+use Rattle.coset_label.specs.Scratch.{IsKept, kept_column, cell_at, placed_cell}
 use Rattle.coset_label.proofs.TurnedColumns.{turned_numbers}
 use Rattle.coset_label.proofs.ColumnOrder.{turned_cells}
 
@@ -92,3 +97,14 @@ columns_by_cells m k m_negative k_negative m_order k_order q h g = (there, back)
         (λ r _ below. same r place (omega arith) (subst (λ n. place < n) h.places l))
         ∙ ap (λ n. numbers_from (turned_cells k (slice_index k_order place) (slice_index_or k_negative (slice_index k_order place) false)) 0 (4 ^ n)) q
         ∙ sym (kept_numbers k k_negative (slice_index k_order place)))
+
+-- a row's cells are within the greatest bound
+pub small_row : (grown : ℕ) (line : List Root2) → grown ≤ 62 → RowWithin (2 ^ grown) line → RowWithin (2 ^ 62) line
+small_row grown line room small place l = surd_within_more (2 ^ grown) (2 ^ 62) _ (pow-le-pow_right {n = 2} (lit< tt) room) (small place l)
+
+-- the cell of a row at a place is that of the label
+pub cell_of_row : (m : ChannelGrid) (line : List Root2) (row : ℕ) (negative : List Bool) (order : List ℕ) (place : ℕ) → ((c : ℕ) → c < 4 ^ m.qubits → cell_of line c ≡ table_of m row c) → IsKept m negative order → place < 4 ^ m.qubits
+    → cell_at (cell_of line) negative order place ≡ placed_cell m negative order row place
+cell_of_row m line row negative order place e h l =
+    let column = slice_index order place in
+    ap (signed (slice_index_or negative column false)) (e column (h.below place 0 (subst (λ n. place < n) (sym h.places) l)))

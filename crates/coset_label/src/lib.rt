@@ -10,3 +10,6 @@ mod word;
 
 pub use scratch::{Scratch, label_into, label_of_word, same_label, tag};
 pub use word::Word;
+
+#[cfg(test)]
+mod tests;

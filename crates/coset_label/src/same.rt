@@ -1,50 +1,48 @@
 // Whether two labels are the same, row by row.
-ghost use Rattle.std.specs.Prelude.{◌≡◌, ℕ, ◌^◌, ◌<◌, ◌↔◌, length, map, IsTrue};
+ghost use Rattle.std.specs.Prelude.{◌≡◌, ℕ, ◌^◌, ◌<◌, ◌↔◌, length, map, All, IsTrue};
 ghost use Rattle.tc_ring.specs.Root2.{surd_of};
-ghost use Rattle.coset_label.specs.Scratch.{IsKept, kept_column, placed_cell};
+ghost use Rattle.channel_rep.specs.Cells.{cell_of, RowWithin};
+ghost use Rattle.coset_label.specs.Scratch.{IsKept, kept_column, cell_at};
 
-use crate::columns::signed_cell;
+use crate::columns::turned;
 use channel_rep::Channel;
 use tc_ring::Root2;
 
-/// The cell at a row and a place of a label.
-fn cell_at_place(
-    channel: &Channel,
-    negative: &[bool],
-    order: &[u8],
-    row: usize,
-    place: usize,
-) -> Root2
-    requires row { row < 4 ^ channel.now.qubits }
-    requires place { place < 4 ^ channel.now.qubits }
-    requires kept { IsKept channel.now negative.now order.now }
-    ensures { surd_of result ≡ placed_cell channel.now negative.now order.now row place }
+/// The cell of a row that stands at a place of a label.
+fn cell_at_place(line: &[Root2], negative: &[bool], order: &[u8], place: usize) -> Root2
+    requires place { place < length order.now }
+    requires below { All (λ column. column < length line.now) order.now }
+    requires signs { length negative.now ≡ length line.now }
+    requires small { RowWithin (2 ^ 62) line.now }
+    ensures { surd_of result ≡ cell_at (cell_of line.now) negative.now order.now place }
 {
     let column = order[place] as usize;
-    signed_cell(channel, row, column, negative[column])
+    turned(line[column], negative[column])
 }
 
 /// Whether the cells of two labels in one row are the same.
 fn same_row(
-    row: usize,
-    x: &Channel,
+    x: &[Root2],
     x_negative: &[bool],
     x_order: &[u8],
-    y: &Channel,
+    y: &[Root2],
     y_negative: &[bool],
     y_order: &[u8],
 ) -> bool
-    requires row { row < 4 ^ x.now.qubits }
-    requires qubits { x.now.qubits ≡ y.now.qubits }
-    requires x { IsKept x.now x_negative.now x_order.now }
-    requires y { IsKept y.now y_negative.now y_order.now }
-    ensures { IsTrue result ↔ ((place : ℕ) → place < 4 ^ x.now.qubits
-        → placed_cell x.now x_negative.now x_order.now row place
-        ≡ placed_cell y.now y_negative.now y_order.now row place) }
+    requires places { length x_order.now ≡ length y_order.now }
+    requires x_below { All (λ column. column < length x.now) x_order.now }
+    requires x_signs { length x_negative.now ≡ length x.now }
+    requires x_small { RowWithin (2 ^ 62) x.now }
+    requires y_below { All (λ column. column < length y.now) y_order.now }
+    requires y_signs { length y_negative.now ≡ length y.now }
+    requires y_small { RowWithin (2 ^ 62) y.now }
+    ensures { IsTrue result ↔ ((place : ℕ) → place < length x_order.now
+        → cell_at (cell_of x.now) x_negative.now x_order.now place
+        ≡ cell_at (cell_of y.now) y_negative.now y_order.now place) }
 {
     for place in 0..x_order.len() {
-        if cell_at_place(x, x_negative, x_order, row, place)
-            != cell_at_place(y, y_negative, y_order, row, place)
+        if cell_at_place(x, x_negative, x_order, place)
+            != cell_at_place(y, y_negative, y_order, place)
         {
             return false;
         }
@@ -69,7 +67,14 @@ pub fn same_columns(
         ≡ map (kept_column y.now y_negative.now) y_order.now) }
 {
     for row in 0..x_order.len() {
-        if !same_row(row, x, x_negative, x_order, y, y_negative, y_order) {
+        if !same_row(
+            x.row(row),
+            x_negative,
+            x_order,
+            y.row(row),
+            y_negative,
+            y_order,
+        ) {
             return false;
         }
     }
