@@ -17,4 +17,3 @@ pub mod ColumnSums
 pub mod KeptLabels
 pub mod SameLabels
 pub mod WordSteps
-pub mod Insertion

@@ -1,8 +1,6 @@
 -- What contracts see of a `Scratch`: the label that it holds. And how the label is kept: the channel's cells as they are,
 -- which column stands at each place, and which columns have their signs turned.
-use Rattle.std.specs.Prelude.{◌≡◌, ◌≢◌, ℕ, ◌+◌, ◌^◌, ◌<◌, ◌≤◌, neg_ℤ, Bool, false, if◌then◌else◌, List, length, map, All, slice_index, slice_index_or}
-use Rattle.std.specs.Ordering.{int_cmp, is_lt}
-use Rattle.std.specs.Cmp.Lexicographic.{slice_cmp}
+use Rattle.std.specs.Prelude.{◌≡◌, ◌≢◌, ℕ, ◌^◌, ◌<◌, ◌≤◌, neg_ℤ, Bool, false, if◌then◌else◌, List, length, map, All, slice_index, slice_index_or}
 use Rattle.tc_ring.specs.Surds.{Surd, zero_surd}
 use Rattle.channel_rep.specs.Tables.{signed}
 use Rattle.channel_rep.specs.Cells.{ChannelGrid, table_of}
@@ -67,11 +65,3 @@ cell_at cell negative order place = let column = slice_index order place in sign
 -- the cell at a row and a place of the label
 abbrev pub placed_cell : ChannelGrid → List Bool → List ℕ → ℕ → ℕ → Surd
 placed_cell m negative order row place = cell_at (λ column. table_of m row column) negative order place
-
--- whether a column with its sign fixed comes before another in the label's order
-abbrev pub precedes : ChannelGrid → ℕ → ℕ → Bool
-precedes m x y = is_lt (slice_cmp int_cmp (fixed_column m x) (fixed_column m y))
-
--- up to a place, no column comes before the one that stands before it
-abbrev pub AscendsTo : ChannelGrid → List ℕ → ℕ → Type 0
-AscendsTo m order last = (k : ℕ) → k + 1 ≤ last → precedes m (slice_index order (k + 1)) (slice_index order k) ≡ false
