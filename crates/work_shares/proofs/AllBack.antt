@@ -1,5 +1,5 @@
 -- What the owners take back of all workers.
-use Rattle.std.proofs.Common.{◌≡◌, ℕ, zero, suc, ◌+◌, ◌%◌, ◌<◌, ◌≤◌, List, Vec, Global, [], ◌∷◌, ◌++◌, Some, All, map, length, length-append, slice_get, slice_index, refl, sym, ap, ◌∙◌, subst, arith}
+use Rattle.std.proofs.Common.{◌≡◌, ℕ, ◌+◌, ◌%◌, ◌≤◌, List, Vec, Global, [], ◌∷◌, ◌++◌, Some, All, map, length, length-append, slice_get, refl, sym, ap, ◌∙◌, subst, arith}
 use Rattle.std.specs.List.{sum_by}
 use Rattle.std.proofs.lemmas.List.{length-map, map-append}
 use Rattle.std.proofs.lemmas.List.Sums.{sum_by_push}
@@ -9,7 +9,7 @@ use Rattle.work_shares.specs.Thefts.{DequeId, got_by}
 use Rattle.work_shares.specs.Ways.{ways_of, ways_from}
 use Rattle.work_shares.specs.Owners.{Owner, deque_of, LeadOn, LeadAllOn, IsDone, TookBack}
 use Rattle.work_shares.proofs.Indexes.{slice_get-front, slice_get-last}
-use Rattle.work_shares.proofs.TakingBack.{Taking, taking_starts, taking_ends}
+use Rattle.work_shares.proofs.TakingBack.{Taking, taking_starts}
 
 -- ways of one worker more
 pub ways_from-push : (workers deque first : ℕ) (ns : List ℕ) (n : ℕ) → ways_from workers deque first (ns ++ n ∷ []) ≡ ways_from workers deque first ns + ways_of workers deque (first + length ns) n
@@ -66,10 +66,10 @@ all_step n all old rest now done own new is long ready t h =
     let short : length done ≤ length old = (let s = h.short in omega arith) in
     let lens : lengths_of rest ≡ lengths_of done ++ length own.items ∷ [] = ap lengths_of is ∙ map-append (λ (v : Vec Theft Global). length v.items) done (own ∷ []) in
     let ways : (d : ℕ) → ways_from (length old) d 0 (lengths_of rest) ≡ ways_from (length old) d 0 (lengths_of done) + ways_of (length now) d n (length own.items) = λ d.
-        ap (ways_from (length old) d 0) lens ∙ ways_from-push (length old) d 0 (lengths_of done) (length own.items)
-            ∙ ap (λ k. ways_from (length old) d 0 (lengths_of done) + k)
-                (ap (λ k. ways_of (length old) d k (length own.items)) (let e : 0 + length (lengths_of done) ≡ n = omega (arith, length-map done (λ (v : Vec Theft Global). length v.items)) in e)
-                  ∙ ap (λ k. ways_of k d n (length own.items)) (sym h.wide)) in
+    ap (ways_from (length old) d 0) lens ∙ ways_from-push (length old) d 0 (lengths_of done) (length own.items)
+    ∙ ap (λ k. ways_from (length old) d 0 (lengths_of done) + k)
+    (ap (λ k. ways_of (length old) d k (length own.items)) (let e : 0 + length (lengths_of done) ≡ n = omega (arith, length-map done (λ (v : Vec Theft Global). length v.items)) in e)
+    ∙ ap (λ k. ways_of k d n (length own.items)) (sym h.wide)) in
     record {
       done = ready;
       lead = λ worker w e i d f. subst (λ (l : List DequeId). slice_get l ((worker + 1 + i) % length l) ≡ Some d) (sym t.deques)

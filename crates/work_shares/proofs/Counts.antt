@@ -1,5 +1,5 @@
 -- Sums over lists of lists, and over the numbers of all workers.
-use Rattle.std.proofs.Common.{◌≡◌, ◌≢◌, ℕ, zero, suc, ◌+◌, ◌*◌, ◌%◌, ◌==◌, ◌<◌, ◌≤◌, ◌⊎◌, ⊎_elim, inl, inr, Bool, true, false, cond, List, [], ◌∷◌, ◌++◌, map, flat_map, filter, refl, sym, ap, ◌∙◌, arith}
+use Rattle.std.proofs.Common.{◌≡◌, ℕ, zero, suc, ◌+◌, ◌%◌, ◌==◌, ◌<◌, ◌≤◌, Bool, true, false, cond, List, [], ◌∷◌, map, flat_map, filter, refl, ap, ◌∙◌, arith}
 use Rattle.std.specs.List.{sum_by, range_with_len}
 use Rattle.std.proofs.lemmas.List.Sums.{sum_by-cons, sum_by-append}
 use Rattle.std.proofs.lemmas.Bool.Decides.{nat_tests}
@@ -63,8 +63,8 @@ sum_by-classes h workers (x ∷ xs) some =
     let here : ℕ → ℕ = at_one (x % workers) (h x) in
     let there : ℕ → ℕ = λ d. sum_by h (filter (λ (y : ℕ). y % workers == d) xs) in
     sum_by-same (λ d. sum_by h (filter (λ (y : ℕ). y % workers == d) (x ∷ xs))) (λ d. here d + there d) (range_with_len 0 workers) (λ d. sum_by-filter-cons h (λ (y : ℕ). y % workers == d) x xs)
-        ∙ sum_by-both here there (range_with_len 0 workers)
-        ∙ (let l = mod-lt x some in omega (arith, pick_one (x % workers) (h x) 0 workers (omega arith) (omega arith), sum_by-classes h workers xs some, sum_by-cons h x xs))
+    ∙ sum_by-both here there (range_with_len 0 workers)
+    ∙ (let l = mod-lt x some in omega (arith, pick_one (x % workers) (h x) 0 workers (omega arith) (omega arith), sum_by-classes h workers xs some, sum_by-cons h x xs))
 
 pub sum_by-numbers_of : (h : ℕ → ℕ) (count workers : ℕ) → 0 < workers → sum_by (λ d. sum_by h (numbers_of count workers d)) (range_with_len 0 workers) ≡ sum_by h (range_with_len 0 count)
 unfolding numbers_of

@@ -1,5 +1,5 @@
 -- The dealt blocks, one behind the other, are the positions below the total.
-use Rattle.std.proofs.Common.{◌≡◌, ℕ, zero, suc, ◌+◌, ◌-◌, ◌*◌, ◌<◌, ◌≤◌, ◌⊎◌, ⊎_elim, inl, inr, min, List, [], ◌∷◌, ◌++◌, All, map, flat_map, length, get_or, refl, sym, ap, ◌∙◌, subst, append-nil, zero-add, zero-mul, arith}
+use Rattle.std.proofs.Common.{◌≡◌, ℕ, zero, suc, ◌+◌, ◌-◌, ◌*◌, ◌<◌, ◌≤◌, ◌⊎◌, ⊎_elim, inl, inr, min, List, ◌∷◌, ◌++◌, All, map, flat_map, length, get_or, sym, ap, ◌∙◌, subst, append-nil, zero-add, zero-mul, arith}
 use Rattle.std.specs.List.{range_with_len}
 use Rattle.std.specs.List.Sorted.{IsStrictlyIncreasing}
 use Rattle.std.proofs.Math.Nat.{add-mul, mul-le-mul_right}
@@ -15,7 +15,7 @@ pub range-append : (a m n : ℕ) → range_with_len a m ++ range_with_len (a + m
 range-append a zero n = ap (λ k. range_with_len k n) (omega arith) ∙ ap (range_with_len a) (omega arith)
 range-append a (suc m) n =
     ap (λ (l : List ℕ). a ∷ l) (ap (λ k. range_with_len (a + 1) m ++ range_with_len k n) (omega arith) ∙ range-append (a + 1) m n)
-        ∙ ap (range_with_len a) (let e : suc (m + n) ≡ suc m + n = omega arith in e)
+    ∙ ap (range_with_len a) (let e : suc (m + n) ≡ suc m + n = omega arith in e)
 
 cases_le : (m n : ℕ) → (m ≤ n) ⊎ (n ≤ m)
 cases_le m n = ⊎_elim (λ lt. inl (omega arith)) (λ le. inr le) (cases_lt m n)
@@ -31,16 +31,16 @@ cover_from total size k (suc m) enough =
     let same : (k + suc m) * size ≡ (k + 1 + m) * size = ap (λ j. j * size) (omega arith) in
     let rest = cover_from total size (k + 1) m (omega arith) in
     ap (λ l. f (min size (total - k * size)) ++ l) rest ∙ ⊎_elim
-        (λ (whole : size ≤ total - k * size).
-          ap (λ c. f c ++ range_with_len ((k + 1) * size) (total - (k + 1) * size)) (omega arith)
-              ∙ ap (λ j. f size ++ range_with_len j (total - j)) next
-              ∙ range-append (k * size) size (total - (k * size + size))
-              ∙ ap f (omega arith))
-        (λ (last : total - k * size ≤ size).
-          ap (λ c. f c ++ range_with_len ((k + 1) * size) (total - (k + 1) * size)) (omega arith)
-              ∙ ap (λ c. f (total - k * size) ++ range_with_len ((k + 1) * size) c) (let none : total - (k + 1) * size ≡ 0 = omega arith in none)
-              ∙ append-nil (f (total - k * size)))
-        (cases_le size (total - k * size))
+    (λ (whole : size ≤ total - k * size).
+    ap (λ c. f c ++ range_with_len ((k + 1) * size) (total - (k + 1) * size)) (omega arith)
+    ∙ ap (λ j. f size ++ range_with_len j (total - j)) next
+    ∙ range-append (k * size) size (total - (k * size + size))
+    ∙ ap f (omega arith))
+    (λ (last : total - k * size ≤ size).
+    ap (λ c. f c ++ range_with_len ((k + 1) * size) (total - (k + 1) * size)) (omega arith)
+    ∙ ap (λ c. f (total - k * size) ++ range_with_len ((k + 1) * size) c) (let none : total - (k + 1) * size ≡ 0 = omega arith in none)
+    ∙ append-nil (f (total - k * size)))
+    (cases_le size (total - k * size))
 
 pub dealt-cover : (total size : ℕ) → 0 < size → flat_map positions_of (dealt total size) ≡ range_with_len 0 total
 unfolding dealt
@@ -62,9 +62,9 @@ unfolding dealt
 All-dealt P total size each =
     let n = block_count total size in
     All-map P (block_at total size) (range_with_len 0 n)
-        (All-from_get_or (λ k. P (block_at total size k)) (range_with_len 0 n) 0 (λ i lt.
-          let below : i < n = omega (arith, length-range_with_len 0 n) in
-          subst (λ k. P (block_at total size k)) (sym (get_or-range_with_len 0 n i 0 below)) (each (0 + i) (omega arith))))
+    (All-from_get_or (λ k. P (block_at total size k)) (range_with_len 0 n) 0 (λ i lt.
+    let below : i < n = omega (arith, length-range_with_len 0 n) in
+    subst (λ k. P (block_at total size k)) (sym (get_or-range_with_len 0 n i 0 below)) (each (0 + i) (omega arith))))
 
 -- no dealt block is empty
 pub dealt-some : (total size : ℕ) → 0 < size → All (λ block. 0 < block.1) (dealt total size)
@@ -84,6 +84,6 @@ dealt-rising total size some k lt =
     let len : length (map f (range_with_len 0 n)) ≡ n = length-map-range_with_len f 0 n in
     let short : k + 1 < n = omega (arith, length-map (map f (range_with_len 0 n)) first) in
     let at : (j : ℕ) → j < n → get_or (map first (map f (range_with_len 0 n))) j 0 ≡ j * size = λ j below.
-        get_or-map first (map f (range_with_len 0 n)) j (0, 0) 0 (omega arith) ∙ ap first (get_or-map-range_with_len f 0 n j j (0, 0) below (omega arith)) in
+    get_or-map first (map f (range_with_len 0 n)) j (0, 0) 0 (omega arith) ∙ ap first (get_or-map-range_with_len f 0 n j j (0, 0) below (omega arith)) in
     let next : (k + 1) * size ≡ k * size + size = add-mul k 1 size ∙ omega arith in
     omega (arith, at k (omega arith), at (k + 1) short)

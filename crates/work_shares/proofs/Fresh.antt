@@ -1,21 +1,18 @@
 -- Seats of which nothing was taken.
-use Rattle.std.proofs.Common.{◌≡◌, ℕ, zero, suc, ◌+◌, ◌-◌, ◌*◌, ◌%◌, ◌<◌, ◌≤◌, false, true, List, Vec, Global, [], ◌∷◌, All, map, vec_len, vec_capacity, refl, sym, ap, ◌∙◌, subst, arith}
+use Rattle.std.proofs.Common.{◌≡◌, ℕ, zero, suc, ◌+◌, ◌-◌, ◌%◌, ◌<◌, ◌≤◌, false, List, Vec, Global, [], ◌∷◌, All, map, vec_len, vec_capacity, refl, ap, arith}
 use Rattle.std.specs.List.{sum_by, range_with_len}
 use Rattle.std.proofs.lemmas.List.Sums.{sum_by-cons}
-use Rattle.std.proofs.lemmas.List.FromFn.{length-range_with_len}
 use Rattle.crossbeam_deque.specs.Handles.{worker_view}
 use Rattle.work_shares.specs.declared.block.Block.{Block}
 use Rattle.work_shares.specs.declared.block.Cut.{Cut}
-use Rattle.work_shares.specs.declared.seat.Seat.{Seat}
 use Rattle.work_shares.specs.declared.theft.Theft.{Theft}
 use Rattle.work_shares.specs.declared.entry.Entry.{Entry}
-use Rattle.work_shares.specs.declared.entry.Entry.TheVariants.{Work, End}
 use Rattle.work_shares.specs.Cuts.{block_count, numbers_of}
 use Rattle.work_shares.specs.Blocks.{extents_of}
-use Rattle.work_shares.specs.Entries.{is_work, is_end, ends, weight_of, entries_of}
+use Rattle.work_shares.specs.Entries.{is_work, ends, weight_of, entries_of}
 use Rattle.work_shares.specs.Thefts.{pushed_into, got_by, left_into, entries_after}
-use Rattle.work_shares.specs.Seats.{seat_left, seat_got, IsMarked, IsStanding, IsSeated}
-use Rattle.work_shares.specs.Owners.{Owner, pushed_of, IsReady}
+use Rattle.work_shares.specs.Seats.{seat_left, IsSeated}
+use Rattle.work_shares.specs.Owners.{Owner, IsReady}
 use Rattle.work_shares.specs.Lending.{IsUnused, AreGiven}
 use Rattle.work_shares.proofs.Counts.{sum_by-same, sum_by-mapped, sum_by-numbers_of}
 use Rattle.work_shares.proofs.Pushes.{sum_by-entries_of}
@@ -37,8 +34,8 @@ left_all (t ∷ ts) unused =
     let here : left_into t ≡ works (pushed_into t) = omega arith in
     omega (arith, sum_by-cons left_into t ts, sum_by-cons works (pushed_into t) (map pushed_into ts), left_all ts (λ k d lt. unused (suc k) d (omega arith)))
   where
-  view_got : Theft → List Entry
-  view_got t = t.pass.me.view.client.got
+    view_got : Theft → List Entry
+    view_got t = t.pass.me.view.client.got
 
 -- all deques together were given each block
 works_all : (count workers worker : ℕ) → worker < workers
@@ -58,9 +55,9 @@ works_all count workers worker lt =
       sum_by-numbers_of one count workers (omega arith),
     )
   where
-  count_ones : (a n : ℕ) → sum_by (λ (number : ℕ). 1) (range_with_len a n) ≡ n
-  count_ones a zero = refl
-  count_ones a (suc n) = omega (arith, sum_by-cons (λ (number : ℕ). 1) a (range_with_len (a + 1) n), count_ones (a + 1) n)
+    count_ones : (a n : ℕ) → sum_by (λ (number : ℕ). 1) (range_with_len a n) ≡ n
+    count_ones a zero = refl
+    count_ones a (suc n) = omega (arith, sum_by-cons (λ (number : ℕ). 1) a (range_with_len (a + 1) n), count_ones (a + 1) n)
 
 -- the seat at the start
 pub seated_fresh : (cut : Cut) (workers worker : ℕ) (own : Owner) (thefts : Vec Theft Global) (noted : Vec Block Global) → worker < workers → workers ≤ 8

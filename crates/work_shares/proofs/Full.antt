@@ -1,5 +1,5 @@
 -- Every part comes back.
-use Rattle.std.proofs.Common.{◌≡◌, ℕ, zero, suc, ◌+◌, ◌-◌, ◌==◌, ◌<◌, ◌≤◌, Bool, true, List, [], ◌∷◌, length, replicate, get_or, nat_lt, refl, sym, ap, ◌∙◌, subst, arith}
+use Rattle.std.proofs.Common.{◌≡◌, ℕ, ◌+◌, ◌-◌, ◌==◌, ◌<◌, ◌≤◌, Bool, true, replicate, get_or, nat_lt, refl, ◌∙◌, subst, arith}
 use Rattle.std.specs.List.{range_with_len, list_all}
 use Rattle.std.proofs.lemmas.List.Sums.{AllPass-from_list_all}
 use Rattle.std.proofs.lemmas.List.FromFn.{length-range_with_len, get_or-range_with_len}
@@ -40,7 +40,7 @@ pub ways_few : (workers deque n : ℕ) → workers ≤ 8 → deque < workers →
 unfolding is_few
 ways_few workers deque n few lt le =
     let rows : list_all (λ d. list_all (is_few workers d) (range_with_len 0 (workers + 1))) (range_with_len 0 workers) ≡ true =
-        below_test (λ w. list_all (λ d. list_all (is_few w d) (range_with_len 0 (w + 1))) (range_with_len 0 w)) 9 workers all_few (omega arith) in
+    below_test (λ w. list_all (λ d. list_all (is_few w d) (range_with_len 0 (w + 1))) (range_with_len 0 w)) 9 workers all_few (omega arith) in
     let row : list_all (is_few workers deque) (range_with_len 0 (workers + 1)) ≡ true = below_test (λ d. list_all (is_few workers d) (range_with_len 0 (workers + 1))) workers deque rows lt in
     let cell : nat_lt (ways_from workers deque 0 (replicate n (workers - 1))) 8 ≡ true = below_test (is_few workers deque) (workers + 1) n row (omega arith) in
     grind (arith, nat_tests)

@@ -1,11 +1,11 @@
 -- Shares are made one by one.
-use Rattle.std.proofs.Common.{◌≡◌, ℕ, zero, suc, ◌+◌, ◌-◌, ◌%◌, ◌<◌, ◌≤◌, ◌⊎◌, ⊎_elim, List, Vec, Global, [], ◌∷◌, ◌++◌, Some, All, map, get_or, length, length-append, remove, slice_get, refl, sym, ap, ◌∙◌, subst, append_assoc, append-nil, zero-add, arith}
+use Rattle.std.proofs.Common.{◌≡◌, ℕ, suc, ◌+◌, ◌%◌, ◌<◌, ◌≤◌, ⊎_elim, List, Vec, Global, [], ◌∷◌, ◌++◌, Some, All, map, get_or, length, length-append, remove, slice_get, refl, sym, ap, ◌∙◌, subst, append_assoc, append-nil, zero-add, arith}
 use Rattle.std.proofs.lemmas.List.{length-map, map-append, nil_from_length}
 use Rattle.std.proofs.lemmas.List.Elements.{All-push, All-nil}
 use Rattle.work_shares.specs.declared.theft.Theft.{Theft}
 use Rattle.work_shares.specs.declared.share.Share.{Share}
 use Rattle.work_shares.specs.Thefts.{DequeId, deque_into}
-use Rattle.work_shares.specs.Places.{Place, ArePlaces}
+use Rattle.work_shares.specs.Places.{Place}
 use Rattle.work_shares.specs.Owners.{Owner, deque_of, LeadOn, IsFilled, AreFilled, IsReady}
 use Rattle.work_shares.specs.Lending.{AreGiven}
 use Rattle.work_shares.specs.Shares.{place_of, load_of, IsFresh, AreDeal}
@@ -18,8 +18,8 @@ filled_more count workers n owners more o h filled is = subst (AreFilled count w
   length_is = length-append owners (o ∷ []) ∙ (let l = h.length_is in omega arith);
   each = λ k p e. ⊎_elim (h.each k p)
       (λ (last : (k ≡ length owners) × (o ≡ p)).
-        let place : k ≡ n = last.0 ∙ h.length_is in
-        subst (λ (q : Owner). IsFilled count workers k q) last.1 (subst (λ (j : ℕ). IsFilled count workers j o) (sym place) filled))
+      let place : k ≡ n = last.0 ∙ h.length_is in
+      subst (λ (q : Owner). IsFilled count workers k q) last.1 (subst (λ (j : ℕ). IsFilled count workers j o) (sym place) filled))
       (slice_get-pushed owners o k p e);
 })
 
@@ -87,7 +87,7 @@ module _ {L : Type 0} (total size count workers : ℕ) (deques : List DequeId) (
   sharing_step n owners left_owners thefts left_thefts loads left_loads shares more own ways load s o t l is made h =
       let deque : Share L → DequeId = λ x. (place_of x).deque in
       let here : LeadTo deques n (place_of s).others =
-          subst (λ (p : Place). LeadTo deques n p.others) (sym made.place) (subst (λ (k : ℕ). LeadOn deques k ways.items) (let z : n + 0 ≡ n = omega arith in z) (h.lead 0 ways (ap (λ (x : List (Vec Theft Global)). slice_get x 0) t))) in
+      subst (λ (p : Place). LeadTo deques n p.others) (sym made.place) (subst (λ (k : ℕ). LeadOn deques k ways.items) (let z : n + 0 ≡ n = omega arith in z) (h.lead 0 ways (ap (λ (x : List (Vec Theft Global)). slice_get x 0) t))) in
       record {
         owners_left = (let a = h.owners_left in omega (arith, ap length o));
         thefts_left = (let a = h.thefts_left in omega (arith, ap length t));
@@ -106,14 +106,14 @@ module _ {L : Type 0} (total size count workers : ℕ) (deques : List DequeId) (
         fresh = subst (All IsFresh) (sym is) (All-push IsFresh shares s h.fresh made.fresh);
         places = λ k x e. ⊎_elim (h.places k x)
             (λ (last : (k ≡ length shares) × (s ≡ x)).
-              let worker : k ≡ n = last.0 ∙ h.made in
-              subst (λ (y : Share L). IsPlaced total size workers k deques y) last.1 (subst (λ (j : ℕ). IsPlaced total size workers j deques s) (sym worker) (record {
-                total_is = ap (λ (p : Place). p.total) made.place;
-                size_is = ap (λ (p : Place). p.size) made.place;
-                workers_is = ap (λ (p : Place). p.workers) made.place;
-                worker_is = ap (λ (p : Place). p.worker) made.place;
-                others = here;
-              })))
+            let worker : k ≡ n = last.0 ∙ h.made in
+            subst (λ (y : Share L). IsPlaced total size workers k deques y) last.1 (subst (λ (j : ℕ). IsPlaced total size workers j deques s) (sym worker) (record {
+              total_is = ap (λ (p : Place). p.total) made.place;
+              size_is = ap (λ (p : Place). p.size) made.place;
+              workers_is = ap (λ (p : Place). p.workers) made.place;
+              worker_is = ap (λ (p : Place). p.worker) made.place;
+              others = here;
+            })))
             (slice_get-pushed shares s k x (ap (λ y. slice_get y k) (sym is) ∙ e));
       }
 
@@ -143,6 +143,6 @@ module _ {L : Type 0} (total size count workers : ℕ) (deques : List DequeId) (
             ap (λ l. slice_get l ((j + 1 + i) % length (map place_of shares))) same ∙ ap (λ n. slice_get deques ((j + 1 + i) % n)) (sym round) ∙ lead);
       }
     where
-    twice : (xs : List (Share L)) → map (λ (p : Place). p.deque) (map place_of xs) ≡ map (λ s. (place_of s).deque) xs
-    twice [] = refl
-    twice (x ∷ xs) = ap (λ l. (place_of x).deque ∷ l) (twice xs)
+      twice : (xs : List (Share L)) → map (λ (p : Place). p.deque) (map place_of xs) ≡ map (λ s. (place_of s).deque) xs
+      twice [] = refl
+      twice (x ∷ xs) = ap (λ l. (place_of x).deque ∷ l) (twice xs)

@@ -1,7 +1,7 @@
 -- What keeps a deal together.
-use Rattle.std.proofs.Common.{◌≡◌, ℕ, zero, suc, ◌+◌, ◌<◌, List, [], ◌∷◌, map, length, slice_index_or, refl, sym, ap, ◌∙◌, subst, arith}
+use Rattle.std.proofs.Common.{◌≡◌, ℕ, suc, ◌<◌, List, [], ◌∷◌, map, length, slice_index_or, refl, sym, ap, ◌∙◌, subst, arith}
 use Rattle.work_shares.specs.declared.share.Share.{Share}
-use Rattle.work_shares.specs.Places.{Place, ArePlaces}
+use Rattle.work_shares.specs.Places.{ArePlaces}
 use Rattle.work_shares.specs.Shares.{place_of, AreDeal}
 
 -- lists of one length whose elements are the same to f at each place
@@ -19,3 +19,11 @@ map-same {Y} f (x ∷ xs) (y ∷ ys) len each =
 pub AreDeal-kept : {L : Type 0} (total block : ℕ) (old new : List (Share L)) → length new ≡ length old
     → ((k : ℕ) (d : Share L) → k < length old → place_of (slice_index_or new k d) ≡ place_of (slice_index_or old k d)) → AreDeal total block old → AreDeal total block new
 AreDeal-kept total block old new len each deal = subst (ArePlaces total block) (sym (map-same place_of old new len each)) deal
+
+-- blocks are not empty
+pub place-size : {L : Type 0} (s : Share L) → 0 < (place_of s).size
+place-size s = s.seat.cut.some
+
+pub AreDeal-size : {L : Type 0} (total block : ℕ) (shares : List (Share L)) → AreDeal total block shares → 0 < block
+AreDeal-size total block [] deal = absurd (let none : 0 < 0 = deal.some in omega arith)
+AreDeal-size total block (s ∷ ss) deal = let same : (place_of s).size ≡ block = (deal.each 0 (place_of s) refl).1 in let some = place-size s in omega arith

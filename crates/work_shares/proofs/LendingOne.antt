@@ -1,5 +1,5 @@
 -- What a worker's ways take from the owners, one by one.
-use Rattle.std.proofs.Common.{◌≡◌, ◌≢◌, ℕ, zero, suc, ◌+◌, ◌-◌, ◌%◌, ◌==◌, ◌<◌, ◌≤◌, ◌⊎◌, ⊎_elim, inl, inr, true, false, cond, List, [], ◌∷◌, ◌++◌, Some, All, map, set, get_or, length, length-append, length-set, slice_get, slice_index, slice_index_or, refl, sym, ap, ◌∙◌, subst, add-one, arith}
+use Rattle.std.proofs.Common.{◌≡◌, ℕ, zero, suc, ◌+◌, ◌-◌, ◌%◌, ◌==◌, ◌<◌, ◌≤◌, ◌⊎◌, ⊎_elim, inl, inr, true, cond, List, [], ◌∷◌, ◌++◌, Some, All, map, set, get_or, length, length-set, slice_get, slice_index, slice_index_or, refl, sym, ap, ◌∙◌, subst, add-one, arith}
 use Rattle.std.specs.List.{range_with_len}
 use Rattle.std.proofs.lemmas.List.{map-set, map-append, get_or-map, get_or-set_same, set-get_or, set-set, length-map}
 use Rattle.std.proofs.lemmas.List.Elements.{All-set, All-push, All-nil}
@@ -10,10 +10,10 @@ use Rattle.std.proofs.Math.Nat.{mod-lt}
 use Rattle.std.proofs.Math.Seq.{map-set_same}
 use Rattle.work_shares.specs.declared.entry.Entry.{Entry}
 use Rattle.work_shares.specs.declared.theft.Theft.{Theft}
-use Rattle.work_shares.specs.Thefts.{DequeId, deque_into, pushed_into}
+use Rattle.work_shares.specs.Thefts.{deque_into, pushed_into}
 use Rattle.work_shares.specs.Ways.{ways_of}
-use Rattle.work_shares.specs.Owners.{Owner, deque_of, parts_of, pushed_of, LeadOn, IsUntaken}
-use Rattle.work_shares.specs.Lending.{IsUnused, IsLent, IsLender, AreWays, Lends}
+use Rattle.work_shares.specs.Owners.{Owner, deque_of, parts_of, pushed_of, IsUntaken}
+use Rattle.work_shares.specs.Lending.{IsUnused, IsLent, Lends}
 use Rattle.work_shares.proofs.TakingBack.{parts_step}
 
 -- an element of a list with one more behind it
@@ -53,7 +53,7 @@ lends_room worker n thefts old now o h below room is =
     let wide : length now ≡ length old = sym (length-map now deque_of) ∙ ap length h.lender.deques ∙ length-map old deque_of in
     let here : slice_index (map parts_of now) at ≡ parts_of o = get_or-map parts_of now at o 0 (omega arith) ∙ ap parts_of (sym is) in
     let grow : ways_of (length old) at worker (suc n) ≤ ways_of (length old) at worker (length old - 1) =
-        (let e : suc n + (length old - 1 - suc n) ≡ length old - 1 = omega arith in subst (λ k. ways_of (length old) at worker (suc n) ≤ ways_of (length old) at worker k) e (ways_of-grow (length old) at worker (suc n) (length old - 1 - suc n))) in
+    (let e : suc n + (length old - 1 - suc n) ≡ length old - 1 = omega arith in subst (λ k. ways_of (length old) at worker (suc n) ≤ ways_of (length old) at worker k) e (ways_of-grow (length old) at worker (suc n) (length old - 1 - suc n))) in
     omega (arith, way_next (length old) worker n, room at lt, h.lender.parts at lt)
 
 -- the part that is lent is one of the owner's of its deque
@@ -77,16 +77,16 @@ lends_step worker n thefts old now t o p some is lent h =
     let count : length thefts ≡ n = sym (length-map thefts pushed_into) ∙ ap length h.ways.given ∙ length-map-range_with_len f 0 n in
     let deque : deque_of (get_or now at o) ≡ deque_into t = ap deque_of (sym is) ∙ sym lent.deque in
     let there : slice_get (map deque_of old) at ≡ Some (deque_into t) =
-        ap (λ l. slice_get l at) (sym h.lender.deques) ∙ slice_get-get_or (map deque_of now) at (deque_of o) (omega (arith, length-map now deque_of)) ∙ ap Some (get_or-map deque_of now at o (deque_of o) lt ∙ deque) in
+    ap (λ l. slice_get l at) (sym h.lender.deques) ∙ slice_get-get_or (map deque_of now) at (deque_of o) (omega (arith, length-map now deque_of)) ∙ ap Some (get_or-map deque_of now at o (deque_of o) lt ∙ deque) in
     let given : pushed_into t ≡ f n = lent.given ∙ ap pushed_of is ∙ sym (get_or-map pushed_of now at o [] lt) ∙ ap (λ l. get_or l at []) h.lender.pushed in
     let parts : List ℕ = map parts_of now in
     record {
       ways = record {
         lead = λ i d e. ⊎_elim (λ old_way. h.ways.lead i d old_way)
             (λ (last : (i ≡ length (map deque_into thefts)) × (deque_into t ≡ d)).
-              let same : i ≡ n = last.0 ∙ length-map thefts deque_into ∙ count in
-              ap (λ k. slice_get (map deque_of old) ((worker + 1 + k) % length (map deque_of old))) same
-                  ∙ ap (λ k. slice_get (map deque_of old) ((worker + 1 + n) % k)) (length-map old deque_of) ∙ there ∙ ap Some last.1)
+            let same : i ≡ n = last.0 ∙ length-map thefts deque_into ∙ count in
+            ap (λ k. slice_get (map deque_of old) ((worker + 1 + k) % length (map deque_of old))) same
+            ∙ ap (λ k. slice_get (map deque_of old) ((worker + 1 + n) % k)) (length-map old deque_of) ∙ there ∙ ap Some last.1)
             (slice_get-pushed (map deque_into thefts) (deque_into t) i d (ap (λ l. slice_get l i) (sym (map-append deque_into thefts (t ∷ []))) ∙ e));
         given = map-append pushed_into thefts (t ∷ []) ∙ ap (λ l. l ++ pushed_into t ∷ []) h.ways.given ∙ ap (λ x. map f (range_with_len 0 n) ++ x ∷ []) given ∙ sym (map-range_with_len_more f 0 n n (omega arith));
         unused = All-push IsUnused thefts t h.ways.unused lent.unused;

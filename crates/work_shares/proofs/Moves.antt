@@ -1,22 +1,19 @@
 -- What a call for a block does to a seat.
-use Rattle.std.proofs.Common.{◌≡◌, ℕ, ◌+◌, ◌<◌, ◌≤◌, true, List, [], ◌∷◌, ◌++◌, Option, Some, None, IfSome, IfNone, Contains, map, Vec, Global, vec_len, vec_capacity, refl, sym, ap, ◌∙◌, subst, arith}
+use Rattle.std.proofs.Common.{◌≡◌, ℕ, ◌+◌, ◌<◌, true, List, [], ◌∷◌, ◌++◌, Option, Some, None, IfSome, IfNone, Contains, map, Vec, Global, vec_len, vec_capacity, refl, sym, ap, ◌∙◌, subst, arith}
 use Rattle.std.specs.List.{sum_by, Any}
 use Rattle.std.proofs.lemmas.List.Sums.{sum_by_push}
 use Rattle.std.proofs.lemmas.List.{map-append}
 use Rattle.std.proofs.lemmas.List.FromFn.{length-map-range_with_len, get_or-map-range_with_len}
-use Rattle.crossbeam_deque.specs.Handles.{worker_deque, worker_flavor}
+use Rattle.crossbeam_deque.specs.Handles.{worker_flavor}
 use Rattle.work_shares.specs.declared.block.Block.{Block}
-use Rattle.work_shares.specs.declared.block.Cut.{Cut}
 use Rattle.work_shares.specs.declared.seat.Seat.{Seat}
-use Rattle.work_shares.specs.declared.theft.Theft.{Theft}
 use Rattle.work_shares.specs.declared.entry.Entry.{Entry}
-use Rattle.work_shares.specs.declared.entry.Entry.TheVariants.{Work, End}
+use Rattle.work_shares.specs.declared.entry.Entry.TheVariants.{Work}
 use Rattle.work_shares.specs.declared.entry.View.{View}
 use Rattle.work_shares.specs.Cuts.{block_count, block_at, dealt}
 use Rattle.work_shares.specs.Blocks.{extent_of, extents_of}
-use Rattle.work_shares.specs.Entries.{ends, blocks_left, weight_of, entries_of}
-use Rattle.work_shares.specs.Gives.{Gives, weighed, given}
-use Rattle.work_shares.specs.Thefts.{Steals, deque_into, pushed_into, got_by, left_into, entries_after}
+use Rattle.work_shares.specs.Entries.{ends, blocks_left, weight_of}
+use Rattle.work_shares.specs.Thefts.{Steals, pushed_into, got_by, left_into, entries_after}
 use Rattle.work_shares.specs.Places.{Place}
 use Rattle.work_shares.specs.Seats.{own_view, count_of, place_of_seat, seat_left, seat_got, IsMarked, IsStanding, IsSeated, TakesOwn, Takes}
 use Rattle.work_shares.proofs.Pushes.{below_of, below_after}
@@ -82,14 +79,14 @@ standing-theft number t u h b rest =
       others = b.pushed ∙ h.others ∙ rw (cut, workers, worker) refl;
       marked = marked-theft t u h.marked own (ap (λ (x : Seat). x.over) rest) (ap (λ (x : Seat). x.ended) rest);
     } where
-  marked-theft : (t u : Seat) → IsMarked t → own_view u ≡ own_view t → u.over ≡ t.over → u.ended ≡ t.ended → IsMarked u
-  marked-theft t u m own over ended =
-      let marks : ends (own_view u).got ≡ ends (own_view t).got = ap (λ (v : View). ends v.got) own in
-      record {
-        going = λ h. marks ∙ m.going (sym over ∙ h);
-        over = λ h. (let g = m.over (sym over ∙ h) in omega arith);
-        ended = λ h. over ∙ m.ended (sym ended ∙ h);
-      }
+      marked-theft : (t u : Seat) → IsMarked t → own_view u ≡ own_view t → u.over ≡ t.over → u.ended ≡ t.ended → IsMarked u
+      marked-theft t u m own over ended =
+          let marks : ends (own_view u).got ≡ ends (own_view t).got = ap (λ (v : View). ends v.got) own in
+          record {
+            going = λ h. marks ∙ m.going (sym over ∙ h);
+            over = λ h. (let g = m.over (sym over ∙ h) in omega arith);
+            ended = λ h. over ∙ m.ended (sym ended ∙ h);
+          }
 
 -- then it stole the block of a number, or none
 pub takes-then : (number : Option ℕ) (s t u : Seat) → Takes None s t → Steals number t.thefts.items u.thefts.items → u ≡ record t { thefts = u.thefts } → Takes number s u
@@ -107,6 +104,7 @@ takes-then number s t u a b rest = record {
   over-theft : (r : Option ℕ) → IfNone r (u.over ≡ true)
   over-theft None = ap (λ (x : Seat). x.over) rest ∙ a.over
   over-theft (Some n) = tt
+
   below-theft : (r : Option ℕ) → IfSome r (λ n. Any (λ pushed. Contains pushed (Work n)) (map pushed_into t.thefts.items)) → IfSome r (λ n. n < count_of s)
   below-theft None known = tt
   below-theft (Some n) known = below_after (count_of s) s.workers s.worker n (subst (Any (λ (pushed : List Entry). Contains pushed (Work n))) (a.stands.others ∙ after-same s t a.place) known)
@@ -147,8 +145,8 @@ seated-noted n s t blocks block h k is more longer capacity =
           let got : seat_got (weight_of weight t.cut.total t.cut.size) t ≡ seat_got w t = rw (total, size) refl in
           let here : weight (extent_of block) ≡ w (Work n) = ap weight is ∙ rw (total, size) refl in
           noted_more weight t.noted.items blocks.items block more
-              ∙ ap (λ k. k + weight (extent_of block)) (ap (λ (v : Vec Block Global). sum_by weight (extents_of v.items)) k.noted ∙ h.noted weight)
-              ∙ ap (λ k. seat_got w s + k) here ∙ sym (k.got w refl) ∙ sym got);
+          ∙ ap (λ k. k + weight (extent_of block)) (ap (λ (v : Vec Block Global). sum_by weight (extents_of v.items)) k.noted ∙ h.noted weight)
+          ∙ ap (λ k. seat_got w s + k) here ∙ sym (k.got w refl) ∙ sym got);
       room = (let l = k.left in let r = h.room in omega arith);
     }
 

@@ -1,8 +1,7 @@
 -- How shares are taken apart, one by one.
-use Rattle.std.proofs.Common.{◌≡◌, ℕ, zero, suc, ◌+◌, ◌<◌, ◌≤◌, List, Vec, Global, [], ◌∷◌, ◌++◌, map, get_or, length, remove, slice_get, IfSome, refl, sym, ap, ◌∙◌, subst, append_assoc, append-nil, arith}
+use Rattle.std.proofs.Common.{◌≡◌, ◌<◌, List, [], ◌∷◌, ◌++◌, map, get_or, length, remove, slice_get, IfSome, sym, ap, ◌∙◌, subst, append_assoc, append-nil, arith}
 use Rattle.std.proofs.lemmas.List.{nil_from_length}
 use Rattle.work_shares.specs.declared.share.Share.{Share}
-use Rattle.work_shares.specs.declared.seat.Seat.{Seat}
 use Rattle.work_shares.specs.declared.parts.Parts.{Parts}
 use Rattle.work_shares.specs.Parts.{HasRoom, IsEmpty, Gains}
 use Rattle.work_shares.specs.Shares.{load_of}

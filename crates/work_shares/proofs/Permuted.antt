@@ -1,5 +1,5 @@
 -- Lists of pairs with the same sums are permutations of each other.
-use Rattle.std.proofs.Common.{◌≡◌, ◌≢◌, ℕ, zero, suc, ◌+◌, ◌==◌, ◌&&◌, ◌<◌, ◌≤◌, Bool, true, false, cond, List, [], ◌∷◌, ◌++◌, IsPermutation, refl, sym, ap, ◌∙◌, subst, arith}
+use Rattle.std.proofs.Common.{◌≡◌, ℕ, ◌==◌, ◌&&◌, ◌<◌, Bool, true, false, cond, List, [], ◌∷◌, ◌++◌, IsPermutation, refl, sym, ap, ◌∙◌, subst, arith}
 use Rattle.std.specs.List.{sum_by}
 use Rattle.std.proofs.lemmas.List.Sums.{sum_by-cons, sum_by-append}
 use Rattle.std.proofs.lemmas.List.Sorted.{IsPermutation-refl, IsPermutation-cons, IsPermutation-middle, IsPermutation-sym, IsPermutation-trans}
@@ -46,8 +46,8 @@ permuted (p ∷ ps) qs same =
     let after = f.1.0 in
     let is : qs ≡ before ++ p ∷ after = f.1.1 in
     let less : (weight : ℕ × ℕ → ℕ) → sum_by weight ps ≡ sum_by weight (before ++ after) = λ weight.
-        omega (arith, same weight, sum_by-cons weight p ps, ap (sum_by weight) is, sum_by-append weight before (p ∷ after), sum_by-cons weight p after, sum_by-append weight before after) in
+    omega (arith, same weight, sum_by-cons weight p ps, ap (sum_by weight) is, sum_by-append weight before (p ∷ after), sum_by-cons weight p after, sum_by-append weight before after) in
     let rest = permuted ps (before ++ after) less in
     subst (IsPermutation (p ∷ ps)) (sym is)
-        (IsPermutation-trans (p ∷ ps) (p ∷ (before ++ after)) (before ++ p ∷ after) (IsPermutation-cons p ps (before ++ after) rest)
-          (IsPermutation-sym (before ++ p ∷ after) (p ∷ (before ++ after)) (IsPermutation-middle before p after)))
+    (IsPermutation-trans (p ∷ ps) (p ∷ (before ++ after)) (before ++ p ∷ after) (IsPermutation-cons p ps (before ++ after) rest)
+    (IsPermutation-sym (before ++ p ∷ after) (p ∷ (before ++ after)) (IsPermutation-middle before p after)))

@@ -1,5 +1,5 @@
 -- What the deques were given.
-use Rattle.std.proofs.Common.{◌≡◌, ℕ, ◌+◌, ◌*◌, ◌-◌, ◌%◌, ◌==◌, ◌<◌, ◌≤◌, List, [], ◌∷◌, ◌++◌, All, Contains, map, filter, replicate, refl, sym, ap, ◌∙◌, subst, arith}
+use Rattle.std.proofs.Common.{◌≡◌, ℕ, ◌+◌, ◌*◌, ◌-◌, ◌%◌, ◌==◌, ◌<◌, List, [], ◌∷◌, All, Contains, map, replicate, refl, subst, arith}
 use Rattle.std.specs.List.{sum_by, Any, range_with_len}
 use Rattle.std.proofs.lemmas.List.Sums.{sum_by-append, sum_by-cons}
 use Rattle.std.proofs.lemmas.List.Folds.{sum_by-replicate}
@@ -46,8 +46,8 @@ unfolding entries_of numbers_of IsBelow
 below_entries count workers worker =
     let numbers = numbers_of count workers worker in
     All-append (IsBelow count) (map Work numbers) (replicate workers End)
-        (All-map (IsBelow count) Work numbers (All-filter (λ number. number % workers == worker) (λ number. number < count) (range_with_len 0 count) (below_range count)))
-        (All-replicate (IsBelow count) workers End tt)
+    (All-map (IsBelow count) Work numbers (All-filter (λ number. number % workers == worker) (λ number. number < count) (range_with_len 0 count) (below_range count)))
+    (All-replicate (IsBelow count) workers End tt)
 
 -- the number of a block that a worker's deque was given
 pub below_of : (count workers worker number : ℕ) → Contains (entries_of count workers worker) (Work number) → number < count

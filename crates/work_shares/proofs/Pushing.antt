@@ -1,9 +1,9 @@
 -- Entries are pushed one by one.
-use Rattle.std.proofs.Common.{◌≡◌, ℕ, zero, suc, ◌+◌, ◌-◌, ◌*◌, ◌/◌, ◌<◌, ◌≤◌, List, [], ◌∷◌, ◌++◌, map, filter, replicate, refl, sym, ap, ◌∙◌, subst, append_assoc, append-nil, zero-mul, arith}
+use Rattle.std.proofs.Common.{◌≡◌, ℕ, ◌+◌, ◌-◌, ◌*◌, ◌/◌, ◌<◌, ◌≤◌, List, [], ◌∷◌, ◌++◌, map, filter, replicate, refl, sym, ap, ◌∙◌, append_assoc, append-nil, zero-mul, arith}
 use Rattle.std.specs.List.{range_with_len}
 use Rattle.std.proofs.lemmas.List.{replicate-append-replicate}
 use Rattle.std.proofs.Math.Nat.{le-div_iff_mul-le, add-mul}
-use Rattle.crossbeam_deque.specs.Handles.{worker_view, worker_capacity, worker_index, SameWorker}
+use Rattle.crossbeam_deque.specs.Handles.{worker_view, worker_index, SameWorker}
 use Rattle.work_shares.specs.declared.entry.View.{View}
 use Rattle.work_shares.specs.declared.entry.Entry.{Entry}
 use Rattle.work_shares.specs.declared.entry.Entry.TheVariants.{Work, End}
@@ -68,7 +68,7 @@ has_step count workers worker number a b c lt more h is next same = record {
   pushed = (
       let rest : List Entry = map Work (filter (is_own workers worker) (range_with_len (number + workers) (count - (number + workers)))) in
       ap (λ (v : View). v.pushed ++ rest) is ∙ append_assoc (pushed_of b) (Work number ∷ []) rest
-          ∙ ap (λ l. pushed_of b ++ map Work l) (sym (numbers_step count workers worker number (worker_index b) lt h.at more)) ∙ h.pushed);
+      ∙ ap (λ l. pushed_of b ++ map Work l) (sym (numbers_step count workers worker number (worker_index b) lt h.at more)) ∙ h.pushed);
   at = (let at = h.at in let m : worker_index c * workers ≡ worker_index b * workers + workers = ap (λ k. k * workers) next ∙ add-mul (worker_index b) 1 workers ∙ omega arith in omega arith);
   within = (let i = index_within count workers worker number (worker_index b) lt h.at more in omega arith);
   same = same_twice a b c h.same same;

@@ -1,5 +1,5 @@
 -- Owners that lent a part to each other worker are ready.
-use Rattle.std.proofs.Common.{◌≡◌, ℕ, zero, suc, ◌+◌, ◌-◌, ◌%◌, ◌<◌, ◌≤◌, List, Vec, Global, [], ◌∷◌, Some, All, map, get_or, length, replicate, slice_get, slice_index, slice_index_or, refl, sym, ap, ◌∙◌, subst, arith}
+use Rattle.std.proofs.Common.{◌≡◌, ℕ, ◌+◌, ◌-◌, ◌%◌, ◌<◌, ◌≤◌, List, Vec, Global, [], ◌∷◌, Some, map, get_or, length, replicate, slice_get, slice_index_or, refl, sym, ap, ◌∙◌, subst, arith}
 use Rattle.std.specs.List.{range_with_len}
 use Rattle.std.proofs.lemmas.List.{length-map, get_or-map}
 use Rattle.std.proofs.lemmas.Option.{slice_get_within, get_or_from_slice_get, slice_get-get_or}
@@ -7,7 +7,6 @@ use Rattle.std.proofs.Math.Nat.{mod-lt}
 use Rattle.work_shares.specs.declared.theft.Theft.{Theft}
 use Rattle.work_shares.specs.declared.entry.Entry.{Entry}
 use Rattle.work_shares.specs.Entries.{entries_of}
-use Rattle.work_shares.specs.Rule.{all_parts}
 use Rattle.work_shares.specs.Thefts.{DequeId, entries_after}
 use Rattle.work_shares.specs.Ways.{ways_from}
 use Rattle.work_shares.specs.Owners.{Owner, deque_of, parts_of, pushed_of, LeadOn, IsUntaken, IsFilled, AreFilled, IsReady}
@@ -40,7 +39,7 @@ module _ (count workers : ℕ) (old new : List Owner) (thefts : List (Vec Theft 
       let was = filled_at count workers old k filled below in
       let parts : parts_of was.0 ≡ 8 = was.2.whole in
       let now : parts_of o + ways_from (length old) k 0 (replicate (length old) (length old - 1)) ≡ parts_of was.0 =
-          ap (λ n. n + ways_from (length old) k 0 (replicate (length old) (length old - 1))) (sym (at_mapped parts_of new k o 0 e)) ∙ lent.lender.parts k (omega arith) ∙ at_mapped parts_of old k was.0 0 was.1 in
+      ap (λ n. n + ways_from (length old) k 0 (replicate (length old) (length old - 1))) (sym (at_mapped parts_of new k o 0 e)) ∙ lent.lender.parts k (omega arith) ∙ at_mapped parts_of old k was.0 0 was.1 in
       record {
         untaken = subst IsUntaken (get_or_from_slice_get new k o o e) (lent.lender.untaken k o lt);
         pushed = sym (at_mapped pushed_of new k o [] e) ∙ ap (λ l. get_or l k []) lent.lender.pushed ∙ at_mapped pushed_of old k was.0 [] was.1 ∙ was.2.pushed;

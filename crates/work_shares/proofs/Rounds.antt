@@ -1,13 +1,13 @@
 -- What rounds of tries do to a list of thefts.
-use Rattle.std.proofs.Common.{◌≡◌, ℕ, ◌+◌, ◌<◌, ◌≤◌, List, [], ◌∷◌, ◌++◌, Option, Some, None, IfSome, Contains, map, set, get_or, length, refl, sym, ap, ◌∙◌, subst, arith}
-use Rattle.std.specs.List.{sum_by, Any}
-use Rattle.std.proofs.lemmas.List.Sums.{sum_by-set, get_or-le-sum_by}
+use Rattle.std.proofs.Common.{◌≡◌, ℕ, ◌<◌, List, Option, Some, None, IfSome, Contains, map, set, get_or, length, refl, sym, ap, ◌∙◌, subst, arith}
+use Rattle.std.specs.List.{Any}
+use Rattle.std.proofs.lemmas.List.Sums.{sum_by-set}
 use Rattle.std.proofs.Math.Seq.{map-set_same}
 use Rattle.std.proofs.lemmas.List.{length-map, get_or-map}
 use Rattle.work_shares.specs.declared.entry.Entry.{Entry}
-use Rattle.work_shares.specs.declared.entry.Entry.TheVariants.{Work, End}
+use Rattle.work_shares.specs.declared.entry.Entry.TheVariants.{Work}
 use Rattle.work_shares.specs.declared.theft.Theft.{Theft}
-use Rattle.work_shares.specs.Gives.{Gives, weighed, given}
+use Rattle.work_shares.specs.Gives.{Gives}
 use Rattle.work_shares.specs.Thefts.{Steals, view_into, deque_into, pushed_into, got_by, left_into}
 
 -- nothing was tried

@@ -1,10 +1,9 @@
 -- The blocks of all workers are those dealt, each once.
-use Rattle.std.proofs.Common.{◌≡◌, ℕ, zero, suc, ◌+◌, ◌-◌, ◌*◌, ◌%◌, ◌<◌, ◌≤◌, List, Vec, Global, [], ◌∷◌, ◌++◌, Some, All, IsPermutation, map, flat_map, get_or, length, replicate, slice_get, slice_index, refl, sym, ap, ◌∙◌, subst, arith}
+use Rattle.std.proofs.Common.{◌≡◌, ℕ, suc, ◌+◌, ◌<◌, List, Vec, Global, [], ◌∷◌, Some, All, IsPermutation, map, flat_map, length, slice_get, refl, sym, ap, ◌∙◌, arith}
 use Rattle.std.specs.List.{sum_by, range_with_len}
-use Rattle.std.proofs.lemmas.List.{length-map, get_or-map}
+use Rattle.std.proofs.lemmas.List.{length-map}
 use Rattle.std.proofs.lemmas.List.Sums.{sum_by-cons, sum_by-append}
 use Rattle.crossbeam_deque.specs.Handles.{worker_view}
-use Rattle.work_shares.specs.declared.block.Block.{Block}
 use Rattle.work_shares.specs.declared.share.Share.{Share}
 use Rattle.work_shares.specs.declared.entry.View.{View}
 use Rattle.work_shares.specs.declared.theft.Theft.{Theft}
@@ -17,12 +16,11 @@ use Rattle.work_shares.specs.Rule.{GotAll}
 use Rattle.work_shares.specs.Thefts.{got_by}
 use Rattle.work_shares.specs.Seats.{seat_got}
 use Rattle.work_shares.specs.Owners.{Owner, pushed_of, owner_got, IsDone, TookBack}
-use Rattle.work_shares.specs.Ways.{ways_from}
 use Rattle.work_shares.specs.Shares.{place_of, noted_by, AreDeal}
-use Rattle.work_shares.specs.Apart.{own_of, thefts_of, notes_of}
-use Rattle.work_shares.proofs.Counts.{sum_by-both, sum_by-same, sum_by-mapped, sum_by-flat_map, sum_by-numbers_of}
+use Rattle.work_shares.specs.Apart.{own_of, thefts_of}
+use Rattle.work_shares.proofs.Counts.{sum_by-mapped, sum_by-numbers_of}
 use Rattle.work_shares.proofs.Permuted.{permuted}
-use Rattle.work_shares.proofs.AllBack.{all_got, lengths_of}
+use Rattle.work_shares.proofs.AllBack.{all_got}
 use Rattle.work_shares.proofs.Ties.{place_at}
 
 -- an owner that got all has got each block of its deque, by weight
@@ -43,10 +41,11 @@ got_owners weight count workers first (o ∷ os) pushed done all none =
     let f : ℕ → ℕ = λ d. sum_by (λ number. weight (Work number)) (numbers_of count workers d) in
     omega (arith, sum_by-cons (owner_got weight) o os, sum_by-cons f first (range_with_len (first + 1) (length os)))
   where
-  head_same : {X : Type 0} {x y : X} {xs ys : List X} → x ∷ xs ≡ y ∷ ys → x ≡ y
-  head_same e = cc
-  tail_same : {X : Type 0} {x y : X} {xs ys : List X} → x ∷ xs ≡ y ∷ ys → xs ≡ ys
-  tail_same e = cc
+    head_same : {X : Type 0} {x y : X} {xs ys : List X} → x ∷ xs ≡ y ∷ ys → x ≡ y
+    head_same e = cc
+
+    tail_same : {X : Type 0} {x y : X} {xs ys : List X} → x ∷ xs ≡ y ∷ ys → xs ≡ ys
+    tail_same e = cc
 
 -- a share stands at its place in a deal of these numbers
 abbrev StandsAt : {L : Type 0} → ℕ → ℕ → ℕ → ℕ → Share L → Type 0
@@ -68,7 +67,7 @@ module _ {L : Type 0} (total size workers : ℕ) where
       let count : block_count s.seat.cut.total s.seat.cut.size ≡ block_count total size = ap (λ t. block_count t s.seat.cut.size) at.0 ∙ ap (block_count total) at.1 in
       let worker : s.seat.worker ≡ first = (let n = at.3 in omega arith) in
       let own : pushed_of (own_of s) ≡ entries_of (block_count total size) workers first = s.seated.stands.own
-          ∙ ap (λ n. entries_of n s.seat.workers s.seat.worker) count ∙ ap (λ n. entries_of (block_count total size) n s.seat.worker) at.2 ∙ ap (entries_of (block_count total size) workers) worker in
+      ∙ ap (λ n. entries_of n s.seat.workers s.seat.worker) count ∙ ap (λ n. entries_of (block_count total size) n s.seat.worker) at.2 ∙ ap (entries_of (block_count total size) workers) worker in
       ap (λ (l : List Entry). l ∷ map pushed_of (map own_of ss)) own ∙ ap (λ l. entries_of (block_count total size) workers first ∷ l) (pushed_from (first + 1) ss (rest_stands first s ss h))
 
   -- what they noted is what their owners and thefts got
@@ -92,21 +91,21 @@ pub once_dealt : {L : Type 0} (total size : ℕ) (shares : List (Share L)) (back
     → All (λ o. GotAll (worker_view o) []) new → IsPermutation (dealt total size) (flat_map extents_of (map noted_by shares))
 unfolding dealt
 once_dealt {L} total size shares back new deal took done all = permuted (dealt total size) (flat_map extents_of (map noted_by shares)) (λ weight.
-  let workers = length shares in
-  let count = block_count total size in
-  let w : Entry → ℕ = weight_of weight total size in
-  let h : ℕ → ℕ = λ number. weight (block_at total size number) in
-  let some : 0 < workers = (let s = deal.some in omega (arith, length-map shares place_of)) in
-  let stand = stand_all total size shares deal in
-  let wide : length new ≡ workers = sym (length-map new pushed_of) ∙ ap length took.pushed ∙ length-map (map own_of shares) pushed_of ∙ length-map shares own_of in
-  let pushed : map pushed_of new ≡ map (entries_of count workers) (range_with_len 0 (length new)) = took.pushed ∙ pushed_from total size workers 0 shares stand ∙ ap (λ n. map (entries_of count workers) (range_with_len 0 n)) (sym wide) in
-  let got = got_owners w count workers 0 new pushed done all refl in
-  sum_by-mapped weight (block_at total size) (range_with_len 0 count)
-      ∙ sym (sum_by-numbers_of h count workers some)
-      ∙ ap (λ n. sum_by (λ d. sum_by h (numbers_of count workers d)) (range_with_len 0 n)) (sym wide)
-      ∙ sym got
-      ∙ took.got w
-      ∙ sym (noted_from total size workers weight 0 shares stand))
+    let workers = length shares in
+    let count = block_count total size in
+    let w : Entry → ℕ = weight_of weight total size in
+    let h : ℕ → ℕ = λ number. weight (block_at total size number) in
+    let some : 0 < workers = (let s = deal.some in omega (arith, length-map shares place_of)) in
+    let stand = stand_all total size shares deal in
+    let wide : length new ≡ workers = sym (length-map new pushed_of) ∙ ap length took.pushed ∙ length-map (map own_of shares) pushed_of ∙ length-map shares own_of in
+    let pushed : map pushed_of new ≡ map (entries_of count workers) (range_with_len 0 (length new)) = took.pushed ∙ pushed_from total size workers 0 shares stand ∙ ap (λ n. map (entries_of count workers) (range_with_len 0 n)) (sym wide) in
+    let got = got_owners w count workers 0 new pushed done all refl in
+    sum_by-mapped weight (block_at total size) (range_with_len 0 count)
+    ∙ sym (sum_by-numbers_of h count workers some)
+    ∙ ap (λ n. sum_by (λ d. sum_by h (numbers_of count workers d)) (range_with_len 0 n)) (sym wide)
+    ∙ sym got
+    ∙ took.got w
+    ∙ sym (noted_from total size workers weight 0 shares stand))
   where
-  stand_all : {L : Type 0} (total size : ℕ) (shares : List (Share L)) → AreDeal total size shares → StandFrom total size (length shares) 0 shares
-  stand_all total size shares deal k s e = let at = place_at total size shares deal k s e in (at.0, at.1, at.2, (let n = at.3 in omega arith))
+    stand_all : {L : Type 0} (total size : ℕ) (shares : List (Share L)) → AreDeal total size shares → StandFrom total size (length shares) 0 shares
+    stand_all total size shares deal k s e = let at = place_at total size shares deal k s e in (at.0, at.1, at.2, (let n = at.3 in omega arith))

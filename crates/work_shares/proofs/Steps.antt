@@ -1,5 +1,5 @@
 -- A worker's numbers, in steps of the workers.
-use Rattle.std.proofs.Common.{◌≡◌, ◌≢◌, ℕ, zero, suc, ◌+◌, ◌-◌, ◌*◌, ◌/◌, ◌%◌, ◌==◌, ◌<◌, ◌≤◌, ◌⊎◌, ⊎_elim, Bool, true, false, cond, List, [], ◌∷◌, ◌++◌, map, filter, refl, sym, ap, ◌∙◌, subst, arith}
+use Rattle.std.proofs.Common.{◌≡◌, ◌≢◌, ℕ, zero, suc, ◌+◌, ◌-◌, ◌*◌, ◌%◌, ◌==◌, ◌<◌, ◌≤◌, ⊎_elim, Bool, true, false, cond, ◌∷◌, filter, sym, ap, ◌∙◌, subst, arith}
 use Rattle.std.specs.List.{range_with_len}
 use Rattle.std.proofs.Math.Nat.{mod-eq_of_lt, add-mod_right, add-mul-mod_self_right}
 use Rattle.std.proofs.lemmas.Bool.{cases_lt}
@@ -32,10 +32,10 @@ moved_on : (workers worker r : ℕ) → worker < workers → 0 < r → r < worke
 moved_on workers worker r lt some few same = ⊎_elim
     (λ (low : worker + r < workers). omega (arith, mod-eq_of_lt low))
     (λ (high : workers ≤ worker + r).
-      let back : worker + r ≡ (worker + r - workers) + workers = omega arith in
-      let small : worker + r - workers < workers = omega arith in
-      let m : (worker + r) % workers ≡ worker + r - workers = ap (λ k. k % workers) back ∙ add-mod_right (worker + r - workers) workers ∙ mod-eq_of_lt small in
-      omega arith)
+    let back : worker + r ≡ (worker + r - workers) + workers = omega arith in
+    let small : worker + r - workers < workers = omega arith in
+    let m : (worker + r) % workers ≡ worker + r - workers = ap (λ k. k % workers) back ∙ add-mod_right (worker + r - workers) workers ∙ mod-eq_of_lt small in
+    omega arith)
     (cases_lt (worker + r) workers)
 
 -- before the first step
@@ -43,8 +43,8 @@ pub numbers_start : (count workers worker : ℕ) → worker < workers → number
 unfolding numbers_of
 numbers_start count workers worker lt =
     skip (is_own workers worker) 0 count worker (λ i below.
-      let m : (0 + i) % workers ≡ 0 + i = mod-eq_of_lt (let l : 0 + i < workers = omega arith in l) in
-      is_false workers worker (0 + i) (λ e. omega arith)) ∙ (let z : 0 + worker ≡ worker = omega arith in ap (λ k. filter (is_own workers worker) (range_with_len k (count - worker))) z)
+    let m : (0 + i) % workers ≡ 0 + i = mod-eq_of_lt (let l : 0 + i < workers = omega arith in l) in
+    is_false workers worker (0 + i) (λ e. omega arith)) ∙ (let z : 0 + worker ≡ worker = omega arith in ap (λ k. filter (is_own workers worker) (range_with_len k (count - worker))) z)
 
 -- a step
 pub numbers_step : (count workers worker number index : ℕ) → worker < workers → number ≡ worker + index * workers → number < count
@@ -55,11 +55,11 @@ numbers_step count workers worker number index lt at more =
     let n : count - number ≡ suc (count - number - 1) = omega arith in
     let here = is_true workers worker number rem in
     let rest = skip p (number + 1) (count - number - 1) (workers - 1) (λ i below.
-      let e : number + 1 + i ≡ worker + (1 + i) + index * workers = omega arith in
-      let m : (number + 1 + i) % workers ≡ (worker + (1 + i)) % workers = ap (λ k. k % workers) e ∙ add-mul-mod_self_right (worker + (1 + i)) index workers in
-      is_false workers worker (number + 1 + i) (λ s. moved_on workers worker (1 + i) lt (omega arith) (omega arith) (sym m ∙ s))) in
+    let e : number + 1 + i ≡ worker + (1 + i) + index * workers = omega arith in
+    let m : (number + 1 + i) % workers ≡ (worker + (1 + i)) % workers = ap (λ k. k % workers) e ∙ add-mul-mod_self_right (worker + (1 + i)) index workers in
+    is_false workers worker (number + 1 + i) (λ s. moved_on workers worker (1 + i) lt (omega arith) (omega arith) (sym m ∙ s))) in
     let s : number + 1 + (workers - 1) ≡ number + workers = omega arith in
     let t : count - number - 1 - (workers - 1) ≡ count - (number + workers) = omega arith in
     ap (λ k. filter p (range_with_len number k)) n
-        ∙ ap (λ b. cond b (number ∷ filter p (range_with_len (number + 1) (count - number - 1))) (filter p (range_with_len (number + 1) (count - number - 1)))) here
-        ∙ ap (λ l. number ∷ l) (rest ∙ ap (λ k. filter p (range_with_len k (count - number - 1 - (workers - 1)))) s ∙ ap (λ k. filter p (range_with_len (number + workers) k)) t)
+    ∙ ap (λ b. cond b (number ∷ filter p (range_with_len (number + 1) (count - number - 1))) (filter p (range_with_len (number + 1) (count - number - 1)))) here
+    ∙ ap (λ l. number ∷ l) (rest ∙ ap (λ k. filter p (range_with_len k (count - number - 1 - (workers - 1)))) s ∙ ap (λ k. filter p (range_with_len (number + workers) k)) t)

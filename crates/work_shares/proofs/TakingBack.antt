@@ -1,5 +1,5 @@
 -- What the owners take back, a theft at a time and a worker at a time.
-use Rattle.std.proofs.Common.{◌≡◌, ◌≢◌, ℕ, zero, suc, ◌+◌, ◌%◌, ◌==◌, ◌<◌, ◌≤◌, ◌⊎◌, ⊎_elim, inl, inr, true, false, cond, List, [], ◌∷◌, ◌++◌, Some, All, map, set, get_or, length, length-append, length-set, slice_get, slice_index, refl, sym, ap, ◌∙◌, subst, arith}
+use Rattle.std.proofs.Common.{◌≡◌, ◌≢◌, ℕ, suc, ◌+◌, ◌%◌, ◌==◌, ◌<◌, ◌⊎◌, ⊎_elim, inl, inr, true, false, List, [], ◌∷◌, ◌++◌, Some, All, map, set, get_or, length, length-append, length-set, slice_get, slice_index, refl, sym, ap, ◌∙◌, subst, arith}
 use Rattle.std.specs.List.{sum_by}
 use Rattle.std.proofs.lemmas.List.{map-set, map-append, get_or-map, get_or-set_same, get_or-set_other, length-map}
 use Rattle.std.proofs.lemmas.List.Sums.{sum_by-set, sum_by_push, sum_by-append}
@@ -10,9 +10,9 @@ use Rattle.std.proofs.Math.Seq.{map-set_same}
 use Rattle.crossbeam_deque.specs.Handles.{worker_view}
 use Rattle.work_shares.specs.declared.entry.Entry.{Entry}
 use Rattle.work_shares.specs.declared.theft.Theft.{Theft}
-use Rattle.work_shares.specs.Entries.{view, ends, is_end}
+use Rattle.work_shares.specs.Entries.{view, is_end}
 use Rattle.work_shares.specs.Thefts.{DequeId, deque_into, view_into, got_by}
-use Rattle.work_shares.specs.Ways.{ways_of, ways_from}
+use Rattle.work_shares.specs.Ways.{ways_of}
 use Rattle.work_shares.specs.Owners.{Owner, deque_of, parts_of, pushed_of, owner_got, LeadOn, IsDone, TookBack}
 use Rattle.work_shares.proofs.Indexes.{slice_get-front, slice_get-last, get_or-mapped}
 
@@ -60,14 +60,14 @@ pub parts_step : (workers worker n at : ℕ) (parts : List ℕ) (p d : ℕ) → 
 unfolding ways_of
 parts_step workers worker n at parts p d lt is more = ⊎_elim
     (λ (same : d ≡ at).
-      let here : ((worker + 1 + n) % workers == d) ≡ true = grind (arith, nat_tests) in
-      let put : get_or (set parts at p) d 0 ≡ p = ap (λ k. get_or (set parts at p) k 0) same ∙ get_or-set_same parts at p 0 lt in
-      let was : get_or parts d 0 ≡ get_or parts at 0 = ap (λ k. get_or parts k 0) same in
-      rw here (omega arith))
+    let here : ((worker + 1 + n) % workers == d) ≡ true = grind (arith, nat_tests) in
+    let put : get_or (set parts at p) d 0 ≡ p = ap (λ k. get_or (set parts at p) k 0) same ∙ get_or-set_same parts at p 0 lt in
+    let was : get_or parts d 0 ≡ get_or parts at 0 = ap (λ k. get_or parts k 0) same in
+    rw here (omega arith))
     (λ (other : d ≢ at).
-      let there : ((worker + 1 + n) % workers == d) ≡ false = grind (arith, nat_tests, other) in
-      let put : get_or (set parts at p) d 0 ≡ get_or parts d 0 = get_or-set_other parts at d p 0 other in
-      rw there (omega arith))
+    let there : ((worker + 1 + n) % workers == d) ≡ false = grind (arith, nat_tests, other) in
+    let put : get_or (set parts at p) d 0 ≡ get_or parts d 0 = get_or-set_other parts at d p 0 other in
+    rw there (omega arith))
     (same_or_other d at)
 
 pub taking_step : (worker n at : ℕ) (all : ℕ → ℕ) (whole : (Entry → ℕ) → ℕ) (old now : List Owner) (done : List Theft) (t : Theft) (o p : Owner) → at < length now → o ≡ get_or now at o → (worker + 1 + n) % length old ≡ at → Absorbs t o p
@@ -104,12 +104,12 @@ pub lead-last : (owners : List Owner) (worker n workers : ℕ) (all done : List 
 lead-last owners worker n workers all done t o is h long wide at =
     let place : ℕ = (worker + 1 + n) % workers in
     let last : slice_get (map deque_into all) (length done) ≡ Some (deque_into t) =
-        ap (λ l. slice_get (map deque_into l) (length done)) is
-            ∙ ap (λ l. slice_get l (length done)) (map-append deque_into done (t ∷ []))
-            ∙ ap (slice_get (map deque_into done ++ deque_into t ∷ [])) (sym (length-map done deque_into))
-            ∙ slice_get-last (map deque_into done) (deque_into t) in
+    ap (λ l. slice_get (map deque_into l) (length done)) is
+    ∙ ap (λ l. slice_get l (length done)) (map-append deque_into done (t ∷ []))
+    ∙ ap (slice_get (map deque_into done ++ deque_into t ∷ [])) (sym (length-map done deque_into))
+    ∙ slice_get-last (map deque_into done) (deque_into t) in
     let same : (worker + 1 + n) % workers ≡ (worker + 1 + length done) % length (map deque_of owners) =
-        ap (λ k. (worker + 1 + k) % workers) long ∙ ap (λ k. (worker + 1 + length done) % k) (wide ∙ sym (length-map owners deque_of)) in
+    ap (λ k. (worker + 1 + k) % workers) long ∙ ap (λ k. (worker + 1 + length done) % k) (wide ∙ sym (length-map owners deque_of)) in
     let found = get_or-mapped deque_of owners place o (deque_into t) (ap (slice_get (map deque_of owners)) same ∙ h (length done) (deque_into t) last) in
     (found.0, ap deque_of at ∙ found.1)
 
@@ -143,8 +143,8 @@ left_step worker n workers all old rest now done t o p is long wide at a h =
     let same : map deque_of (set now place p) ≡ map deque_of now = map-set_same deque_of now place p o (a.deque ∙ ap deque_of at) in
     let count : length rest ≡ suc n = ap length is ∙ length-append done (t ∷ []) ∙ omega arith in
     let before : Taking (λ d. ways_of (length old) d worker (suc n)) (λ d. ways_of (length old) d worker (length all)) (λ weight. sum_by (got_by weight) (done ++ t ∷ [])) (λ weight. sum_by (got_by weight) all) old now =
-        subst (λ (k : ℕ). Taking (λ d. ways_of (length old) d worker k) (λ d. ways_of (length old) d worker (length all)) (λ weight. sum_by (got_by weight) (done ++ t ∷ [])) (λ weight. sum_by (got_by weight) all) old now) count
-            (subst (λ (l : List Theft). Taking (λ d. ways_of (length old) d worker (length rest)) (λ d. ways_of (length old) d worker (length all)) (λ weight. sum_by (got_by weight) l) (λ weight. sum_by (got_by weight) all) old now) is h.taking) in
+    subst (λ (k : ℕ). Taking (λ d. ways_of (length old) d worker k) (λ d. ways_of (length old) d worker (length all)) (λ weight. sum_by (got_by weight) (done ++ t ∷ [])) (λ weight. sum_by (got_by weight) all) old now) count
+    (subst (λ (l : List Theft). Taking (λ d. ways_of (length old) d worker (length rest)) (λ d. ways_of (length old) d worker (length all)) (λ weight. sum_by (got_by weight) l) (λ weight. sum_by (got_by weight) all) old now) is h.taking) in
     let after = taking_step worker n place (λ d. ways_of (length old) d worker (length all)) (λ weight. sum_by (got_by weight) all) old now done t o p found.0 at (ap (λ k. (worker + 1 + n) % k) (sym wide)) a before in
     record {
       done = All-set IsDone now place p (done_absorbs t o p ready a) h.done;

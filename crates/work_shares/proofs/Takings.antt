@@ -1,5 +1,5 @@
 -- What taking an entry does to a view, by what is given of it.
-use Rattle.std.proofs.Common.{◌≡◌, ℕ, ◌+◌, ◌<◌, ◌≤◌, List, [], ◌∷◌, ◌++◌, Some, None, Contains, refl, sym, ap, ◌∙◌, subst, arith}
+use Rattle.std.proofs.Common.{◌≡◌, ℕ, ◌+◌, List, [], ◌∷◌, ◌++◌, Some, None, Contains, refl, sym, ap, ◌∙◌, subst, arith}
 use Rattle.std.specs.List.{sum_by}
 use Rattle.std.proofs.lemmas.List.Sums.{sum_by_push}
 use Rattle.std.proofs.lemmas.List.Elements.{Contains-append_left, Contains-append_right}
@@ -19,7 +19,7 @@ contains_taken v w x t =
     let before = t.2.0 in
     let after = t.2.1 in
     subst (λ (pushed : List Entry). Contains pushed x) (sym t.2.2)
-        (Contains-append_right before (x ∷ [] ++ after) x (Contains-append_left (x ∷ []) after x (0, omega arith, refl)))
+    (Contains-append_right before (x ∷ [] ++ after) x (Contains-append_left (x ∷ []) after x (0, omega arith, refl)))
 
 pub takes_work : (v w : View) (x : Entry) (number : ℕ) → x ≡ Work number → Took v (x ∷ []) w → Gives (Some number) v w
 takes_work v w x number is t = record {

@@ -1,22 +1,19 @@
 -- What the shares of one deal know of each other.
-use Rattle.std.proofs.Common.{◌≡◌, ℕ, zero, suc, ◌+◌, ◌-◌, ◌*◌, ◌%◌, ◌==◌, ◌<◌, ◌≤◌, List, Vec, Global, [], ◌∷◌, ◌++◌, Some, None, IfSome, IsTrue, All, map, get_or, length, replicate, slice_get, slice_index, refl, sym, ap, ◌∙◌, subst, arith}
-use Rattle.std.specs.List.{sum_by, range_with_len, list_all}
+use Rattle.std.proofs.Common.{◌≡◌, ℕ, zero, suc, ◌+◌, ◌-◌, ◌%◌, ◌<◌, ◌≤◌, List, Vec, Global, [], ◌∷◌, Some, IsTrue, All, map, get_or, length, replicate, slice_get, slice_index, refl, sym, ap, ◌∙◌, arith}
 use Rattle.std.proofs.lemmas.List.{length-map, get_or-map}
-use Rattle.std.proofs.lemmas.Option.{slice_get-get_or, slice_get_within, get_or_from_slice_get}
+use Rattle.std.proofs.lemmas.Option.{slice_get-get_or}
 use Rattle.std.proofs.lemmas.List.Elements.{All-map, All-weaker}
 use Rattle.std.proofs.lemmas.List.FromFn.{length-map-range_with_len}
-use Rattle.crossbeam_deque.specs.Handles.{worker_view}
 use Rattle.work_shares.specs.declared.share.Share.{Share}
-use Rattle.work_shares.specs.declared.seat.Seat.{Seat}
 use Rattle.work_shares.specs.declared.theft.Theft.{Theft}
 use Rattle.work_shares.specs.declared.entry.Entry.{Entry}
-use Rattle.work_shares.specs.Thefts.{DequeId, deque_into, pushed_into, entries_after}
-use Rattle.work_shares.specs.Ways.{ways_of, ways_from}
+use Rattle.work_shares.specs.Thefts.{deque_into, pushed_into, entries_after}
+use Rattle.work_shares.specs.Ways.{ways_from}
 use Rattle.work_shares.specs.Entries.{entries_of}
 use Rattle.work_shares.specs.Seats.{count_of}
 use Rattle.work_shares.specs.Rule.{all_parts}
-use Rattle.work_shares.specs.Places.{Place, ArePlaces}
-use Rattle.work_shares.specs.Owners.{Owner, deque_of, parts_of, pushed_of, LeadOn, LeadAllOn, IsDone, TookBack}
+use Rattle.work_shares.specs.Places.{Place}
+use Rattle.work_shares.specs.Owners.{Owner, deque_of, parts_of, LeadAllOn, IsDone, TookBack}
 use Rattle.work_shares.specs.Shares.{place_of, is_ended, AreDeal}
 use Rattle.work_shares.specs.Apart.{own_of, thefts_of}
 use Rattle.work_shares.proofs.AllBack.{lengths_of}
@@ -72,7 +69,7 @@ module _ {L : Type 0} where
       let h = s.seated.stands in
       let w = s.seat.workers in
       let many : length s.seat.thefts.items ≡ w - 1 = sym (length-map s.seat.thefts.items pushed_into) ∙ ap length h.others
-          ∙ length-map-range_with_len (λ i. entries_of (count_of s.seat) w ((s.seat.worker + 1 + i) % w)) 0 (w - 1) in
+      ∙ length-map-range_with_len (λ i. entries_of (count_of s.seat) w ((s.seat.worker + 1 + i) % w)) 0 (w - 1) in
       let some = h.worker in
       omega arith
 

@@ -1,10 +1,9 @@
 -- Each step keeps the rule of one deque.
-use Rattle.std.proofs.Common.{◌≡◌, ◌≢◌, ℕ, zero, suc, ◌+◌, ◌-◌, ◌<◌, ◌≤◌, ◌⊎◌, List, [], ◌∷◌, ◌++◌, set, map, sym, refl, ap, ◌∙◌, subst, ⊎_elim, append_assoc, arith}
+use Rattle.std.proofs.Common.{◌≡◌, ◌≢◌, ℕ, zero, suc, ◌+◌, ◌-◌, ◌<◌, ◌≤◌, List, [], ◌∷◌, ◌++◌, set, sym, refl, ap, ◌∙◌, subst, ⊎_elim, append_assoc, arith}
 use mathlib.Core.Option.{some, some-injective, some-ne-none}
 use lib.ListN.{get_elem?}
 use Rattle.std.specs.List.{sum_by}
-use Rattle.std.specs.Prelude.{replicate}
-use Rattle.std.proofs.lemmas.List.Sums.{sum_by-cons, sum_by-append, sum_by_push}
+use Rattle.std.proofs.lemmas.List.Sums.{sum_by-append, sum_by_push}
 use Rattle.crossbeam_deque.specs.Tasks.{Pushes, Takes, Finds, Forks, Merges, Learns}
 use Rattle.crossbeam_deque.proofs.Lists.{at_set, at_snoc}
 use Rattle.work_shares.specs.declared.entry.View.{View}
@@ -167,6 +166,6 @@ pub learns : (port : ℕ) (v : View) → v.parts ≡ all_parts → Learns IsRule
 learns port v whole items views h at numbers workers is some_end f zero_of =
     let mine = (h.fits port v at).knows (omega arith) in
     let same : (k : Entry → ℕ) → sum_by k v.got ≡ sum_by k h.taken = λ k.
-        sym (only_one (got_of k) parts_of views port v at (h.parts ∙ sym whole) (λ j u e none. ap (sum_by k) ((h.fits j u e).spent none))) ∙ h.once k in
+    sym (only_one (got_of k) parts_of views port v at (h.parts ∙ sym whole) (λ j u e none. ap (sum_by k) ((h.fits j u e).spent none))) ∙ h.once k in
     let e = same is_end in
     same f ∙ got_each h.taken items numbers workers f (sym h.cut ∙ sym mine ∙ is) (omega arith) zero_of

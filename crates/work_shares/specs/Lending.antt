@@ -2,7 +2,6 @@
 use Rattle.std.specs.Prelude.{◌≡◌, ℕ, ◌+◌, ◌-◌, ◌%◌, ◌<◌, List, [], Vec, Some, All, false, map, length, replicate, slice_get, slice_index, slice_index_or}
 use Rattle.std.specs.List.{range_with_len}
 use Rattle.std.specs.declared.alloc.Global.{Global}
-use Rattle.work_shares.specs.declared.entry.Entry.{Entry}
 use Rattle.work_shares.specs.declared.theft.Theft.{Theft}
 use Rattle.work_shares.specs.Thefts.{deque_into, view_into, pushed_into, entries_after}
 use Rattle.work_shares.specs.Ways.{ways_of, ways_from}

@@ -1,5 +1,5 @@
 -- The owners of the deques of a deal, in order, and the thefts into them.
-use Rattle.std.specs.Prelude.{◌≡◌, ℕ, ◌+◌, ◌%◌, ◌<◌, ◌≤◌, List, [], Vec, Some, length, map, slice_get, slice_index, sum_by}
+use Rattle.std.specs.Prelude.{◌≡◌, ℕ, ◌+◌, ◌%◌, ◌<◌, List, [], Vec, Some, length, map, slice_get, slice_index, sum_by}
 use Rattle.std.specs.declared.alloc.Global.{Global}
 use Rattle.crossbeam_deque.specs.Handles.{worker_view, worker_deque, worker_flavor}
 use Rattle.crossbeam_deque.specs.declared.handles.Worker.{Worker}
@@ -9,7 +9,7 @@ use Rattle.work_shares.specs.declared.deque.DealRule.{DealRule}
 use Rattle.work_shares.specs.declared.theft.Theft.{Theft}
 use Rattle.work_shares.specs.Entries.{ends, entries_of}
 use Rattle.work_shares.specs.Rule.{all_parts}
-use Rattle.work_shares.specs.Thefts.{DequeId, deque_into, got_by}
+use Rattle.work_shares.specs.Thefts.{DequeId, deque_into}
 
 abbrev pub Owner : Type 0
 Owner = Worker Entry Global View DealRule

@@ -1,5 +1,5 @@
 -- What holds of a seat.
-use Rattle.std.specs.Prelude.{◌≡◌, ℕ, ◌+◌, ◌<◌, ◌≤◌, List, map, Option, IfSome, IfNone, true, false, sum_by, vec_len, vec_capacity}
+use Rattle.std.specs.Prelude.{◌≡◌, ℕ, ◌+◌, ◌<◌, ◌≤◌, map, Option, IfSome, IfNone, true, false, sum_by, vec_len, vec_capacity}
 use Rattle.crossbeam_deque.specs.Handles.{worker_view, worker_deque, worker_flavor}
 use Rattle.work_shares.specs.declared.entry.View.{View}
 use Rattle.work_shares.specs.declared.entry.Entry.{Entry}

@@ -87,15 +87,7 @@ fn shares_of<L: Drop>(
         let own = owners.remove(0);
         let ways = thefts.remove(0);
         let load = loads.remove(0);
-        let share = share_at(
-            alloc,
-            cut,
-            workers as u32,
-            worker as u32,
-            own,
-            ways,
-            load,
-        )?;
+        let share = share_at(alloc, cut, workers as u32, worker as u32, own, ways, load)?;
         shares.push_reserved(share);
     }
     Ok(shares)

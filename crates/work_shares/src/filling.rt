@@ -41,12 +41,7 @@ fn push_ends(owner: &mut Owner, workers: u32)
 }
 
 /// The deque of a worker: the numbers of its blocks, and behind them the end marks.
-pub fn filled(
-    alloc: Global,
-    count: u32,
-    workers: u32,
-    worker: u32,
-) -> Result<Owner, AllocError>
+pub fn filled(alloc: Global, count: u32, workers: u32, worker: u32) -> Result<Owner, AllocError>
     requires few { count ≤ 2 ^ 24 }
     requires worker { (worker < workers) × (workers ≤ 8) }
     ensures { IfOk result (λ owner. IsFilled count workers worker owner) }

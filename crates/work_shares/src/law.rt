@@ -12,5 +12,4 @@ pub fn deals_cover(total: u64, block: u32)
     ensures some { All (λ one. 0 < one.1) (dealt total block) }
     ensures within { All (λ one. one.0 + one.1 ≤ total) (dealt total block) }
     ensures rising { IsStrictlyIncreasing (map (λ one. one.0) (dealt total block)) }
-{
-}
+{}

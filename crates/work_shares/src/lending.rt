@@ -24,11 +24,7 @@ fn lend_one(owner: &mut Owner) -> Result<Theft, AllocError>
 }
 
 // A worker's ways into the deques of the workers after it, counted round.
-fn lend_to(
-    alloc: Global,
-    owners: &mut Vec<Owner>,
-    worker: usize,
-) -> Result<Vec<Theft>, AllocError>
+fn lend_to(alloc: Global, owners: &mut Vec<Owner>, worker: usize) -> Result<Vec<Theft>, AllocError>
     requires few { (worker < vec_len owners.old) × (vec_len owners.old ≤ 8) }
     requires untaken { All IsUntaken owners.old.items }
     requires parts { (d : ℕ) → d < length owners.old.items → ways_of (length owners.old.items) d worker (length owners.old.items - 1) < slice_index (map parts_of owners.old.items) d }
@@ -45,10 +41,7 @@ fn lend_to(
 }
 
 /// Each worker's ways into the deques of the workers after it, counted round.
-pub fn lend_all(
-    alloc: Global,
-    owners: &mut Vec<Owner>,
-) -> Result<Vec<Vec<Theft>>, AllocError>
+pub fn lend_all(alloc: Global, owners: &mut Vec<Owner>) -> Result<Vec<Vec<Theft>>, AllocError>
     requires few { (0 < vec_len owners.old) × (vec_len owners.old ≤ 8) }
     requires untaken { All IsUntaken owners.old.items }
     requires whole { All (λ owner. parts_of owner ≡ all_parts) owners.old.items }

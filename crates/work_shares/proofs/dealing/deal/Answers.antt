@@ -1,4 +1,4 @@
-use Rattle.std.proofs.Common.{rules, ◌≡◌, ◌<◌, ◌≤◌, ℕ, length, subst, sym, ap, ◌∙◌, arith}
+use Rattle.std.proofs.Common.{rules, ◌<◌, ◌≤◌, ℕ, length}
 use Rattle.work_shares.specs.Cuts.{block_count}
 use Rattle.work_shares.specs.Owners.{AreFilled}
 use Rattle.work_shares.proofs.Ready.{owners_ready, ways_given, ways_lead}

@@ -1,4 +1,4 @@
-use Rattle.std.proofs.Common.{rules, ◌≡◌, ◌<◌, ◌≤◌, ◌+◌, ℕ, List, Vec, Global, slice_get, map, length, subst, sym, ap, refl, ◌∙◌, zero-add, add-zero, arith}
+use Rattle.std.proofs.Common.{rules, ◌≡◌, ◌<◌, ◌≤◌, ℕ, List, Vec, Global, slice_get, map, length, subst, sym, ap, refl, ◌∙◌, add-zero, arith}
 use Rattle.work_shares.specs.Cuts.{block_count}
 use Rattle.work_shares.specs.Owners.{deque_of, IsReady}
 use Rattle.work_shares.specs.Lending.{AreGiven}
@@ -15,8 +15,7 @@ place_from total size workers worker deque others = record { total = total; size
 pub loop-worker-init : goal.loop-worker-init
 loop-worker-init g c =
     let r = c.requires in
-    let a = c.args in
-    (
+    let a = c.args in (
       sharing_starts a.cut.total a.cut.size (block_count a.cut.total a.cut.size) (length a.loads.items) (map deque_of a.owners.items) a.loads.items a.owners.items a.thefts.items c.in_ok-shares.shares.items c.in_ok-shares.ensures.items
           refl r.lengths.0 r.lengths.1 refl r.owners r.thefts r.ways,
       c.in_ok-shares.ensures.exact,
@@ -59,8 +58,7 @@ loop-worker-preserved g c =
     let loads = first_rest c.loop-worker.loads.items c.remove-load.new.self.items c.remove-load.result some_load c.remove-load.ensures.value c.remove-load.ensures.items in
     let e = c.in_ok-share.ensures in
     let made : IsMade a.cut.total a.cut.size count (length a.loads.items) (map deque_of a.owners.items) a.loads.items c.loop-worker.worker c.remove-own.result c.remove-ways.result c.remove-load.result c.in_ok-share.share =
-        record { place = e.place ∙ ap (λ (w : ℕ). place_from a.cut.total a.cut.size w c.loop-worker.worker (deque_of c.remove-own.result) (map deque_into c.remove-ways.result.items)) wide; fresh = e.fresh; load_is = e.load } in
-    (
+    record { place = e.place ∙ ap (λ (w : ℕ). place_from a.cut.total a.cut.size w c.loop-worker.worker (deque_of c.remove-own.result) (map deque_into c.remove-ways.result.items)) wide; fresh = e.fresh; load_is = e.load } in (
       sharing_step a.cut.total a.cut.size count (length a.loads.items) (map deque_of a.owners.items) a.loads.items c.loop-worker.worker c.loop-worker.owners.items c.remove-own.new.self.items c.loop-worker.thefts.items c.remove-ways.new.self.items
           c.loop-worker.loads.items c.remove-load.new.self.items c.loop-worker.shares.items c.push_reserved.new.self.items c.remove-own.result c.remove-ways.result c.remove-load.result c.in_ok-share.share
           owns ways loads c.push_reserved.ensures.items made i,
@@ -75,4 +73,4 @@ returns-clause-deal g c =
     let few : length a.loads.items ≤ 8 = search rules in
     let all : c.loop-worker.worker ≡ length a.loads.items = search rules in
     sharing_ends a.cut.total a.cut.size count (length a.loads.items) (map deque_of a.owners.items) a.loads.items c.loop-worker.owners.items c.loop-worker.thefts.items c.loop-worker.loads.items c.loop-worker.shares.items some few
-        (subst (λ (n : ℕ). IsSharing a.cut.total a.cut.size count (length a.loads.items) (map deque_of a.owners.items) a.loads.items n c.loop-worker.owners.items c.loop-worker.thefts.items c.loop-worker.loads.items c.loop-worker.shares.items) all c.loop-worker.invariant.0)
+    (subst (λ (n : ℕ). IsSharing a.cut.total a.cut.size count (length a.loads.items) (map deque_of a.owners.items) a.loads.items n c.loop-worker.owners.items c.loop-worker.thefts.items c.loop-worker.loads.items c.loop-worker.shares.items) all c.loop-worker.invariant.0)

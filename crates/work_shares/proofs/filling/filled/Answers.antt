@@ -1,6 +1,6 @@
-use Rattle.std.proofs.Common.{◌≡◌, [], ◌∷◌, ◌++◌, map, replicate, ap, ◌∙◌, refl}
+use Rattle.std.proofs.Common.{◌++◌, replicate, ap, ◌∙◌}
 use Rattle.work_shares.specs.declared.entry.View.{View}
-use Rattle.work_shares.specs.declared.entry.Entry.TheVariants.{Work, End}
+use Rattle.work_shares.specs.declared.entry.Entry.TheVariants.{End}
 use Rattle.work_shares.specs.Entries.{entries_of}
 use Rattle.work_shares.proofs.filling.filled.Goals as goal
 

@@ -1,7 +1,3 @@
-use Rattle.std.proofs.Common.{◌∙◌, ap}
-use Rattle.work_shares.specs.declared.entry.View.{View}
-use Rattle.work_shares.specs.declared.entry.Entry.TheVariants.{Work}
-use Rattle.work_shares.specs.Entries.{view}
 use Rattle.work_shares.proofs.Pushing.{has_start, has_step}
 use Rattle.work_shares.proofs.filling.push_numbers.Goals as goal
 

@@ -1,4 +1,4 @@
-use Rattle.std.proofs.Common.{ℕ, ◌-◌}
+use Rattle.std.proofs.Common.{◌-◌}
 use Rattle.work_shares.proofs.Pushing.{HasNumbers}
 use Rattle.work_shares.proofs.filling.push_numbers.Given as goal
 

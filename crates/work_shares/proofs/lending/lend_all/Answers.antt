@@ -1,4 +1,4 @@
-use Rattle.std.proofs.Common.{rules, ◌≡◌, ◌+◌, ◌<◌, ◌≤◌, List, Vec, Global, length, sym, ap, ◌∙◌, subst, arith}
+use Rattle.std.proofs.Common.{rules, ◌+◌, ◌<◌, ◌≤◌, List, Vec, Global, length, sym, ◌∙◌, subst}
 use Rattle.work_shares.specs.declared.theft.Theft.{Theft}
 use Rattle.work_shares.specs.Lending.{LendsAll}
 use Rattle.work_shares.proofs.LendingAll.{lends_all_start, lends_all_room, lends_all_step}
@@ -19,8 +19,7 @@ pub loop-worker-preserved : goal.loop-worker-preserved
 loop-worker-preserved c =
     let i = c.loop-worker.invariant in
     let own = c.in_ok-thefts.thefts in
-    let step = lends_all_step c.loop-worker.worker c.loop-worker.all.items own c.args.owners.now.items c.loop-worker.owners.items c.lend_to.new.owners.items i.0 c.in_ok-thefts.ensures in
-    (
+    let step = lends_all_step c.loop-worker.worker c.loop-worker.all.items own c.args.owners.now.items c.loop-worker.owners.items c.lend_to.new.owners.items i.0 c.in_ok-thefts.ensures in (
       subst (λ (l : List (Vec Theft Global)). LendsAll (c.loop-worker.worker + 1) l c.args.owners.now.items c.lend_to.new.owners.items) (sym c.push_reserved.ensures.items) step,
       c.push_reserved.ensures.capacity ∙ i.1,
     )

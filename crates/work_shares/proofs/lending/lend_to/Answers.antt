@@ -1,14 +1,12 @@
-use Rattle.std.proofs.Common.{rules, ◌≡◌, ◌+◌, ◌-◌, ◌%◌, ◌<◌, ◌++◌, ◌∷◌, [], ℕ, List, get_or, set, length, vec_len, sym, ap, ◌∙◌, subst, arith}
+use Rattle.std.proofs.Common.{rules, ◌≡◌, ◌+◌, ◌-◌, ◌%◌, ◌<◌, ◌++◌, ◌∷◌, [], ℕ, List, get_or, set, length, sym, ap, ◌∙◌, subst, arith}
 use Rattle.work_shares.specs.declared.theft.Theft.{Theft}
-use Rattle.work_shares.specs.Owners.{Owner}
 use Rattle.work_shares.specs.Lending.{Lends}
 use Rattle.work_shares.proofs.LendingOne.{lends_start, lends_room, lends_step}
 use Rattle.work_shares.proofs.lending.lend_to.Goals as goal
 
 pub loop-i-init : goal.loop-i-init
 loop-i-init c =
-    let owners = c.args.owners.now.items in
-    (
+    let owners = c.args.owners.now.items in (
       subst (λ (l : List Theft). Lends c.args.worker 0 l owners owners) (sym c.in_ok-thefts.ensures.items) (lends_start c.args.worker owners c.requires.untaken),
       c.in_ok-thefts.ensures.len,
       c.in_ok-thefts.ensures.exact,
@@ -36,8 +34,7 @@ loop-i-preserved c =
     let at : o ≡ get_or now ((c.args.worker + 1 + c.loop-i.i) % length owners) o = subst (λ (w : ℕ). o ≡ get_or now ((c.args.worker + 1 + c.loop-i.i) % w) o) wide c.index_mut.ensures.value in
     let step = lends_step c.args.worker c.loop-i.i c.loop-i.thefts.items owners now t o p some at c.in_ok-theft.ensures c.loop-i.invariant.0 in
     let i = c.loop-i.invariant in
-    let e = c.push_reserved.ensures in
-    (
+    let e = c.push_reserved.ensures in (
       subst (λ (l : List Theft). Lends c.args.worker (c.loop-i.i + 1) l owners (set now ((c.args.worker + 1 + c.loop-i.i) % c.len-workers.result) p)) (sym e.items)
           (subst (λ (w : ℕ). Lends c.args.worker (c.loop-i.i + 1) (c.loop-i.thefts.items ++ t ∷ []) owners (set now ((c.args.worker + 1 + c.loop-i.i) % w) p)) (sym wide) step),
       e.len ∙ ap (λ k. k + 1) i.1,

@@ -1,9 +1,9 @@
-use Rattle.std.proofs.Common.{rules, ◌≡◌, length, ap, sym, ◌∙◌, subst, arith}
+use Rattle.std.proofs.Common.{rules, ◌≡◌, length, sym, ◌∙◌, subst}
 use Rattle.std.proofs.lemmas.List.{nil_from_length}
 use Rattle.std.proofs.lemmas.List.Elements.{All-get_or}
 use Rattle.crossbeam_deque.specs.Handles.{IsPassOf}
 use Rattle.work_shares.specs.Owners.{IsDone}
-use Rattle.work_shares.proofs.TakingBack.{Absorbs, left_starts, left_step, left_ends, lead-last}
+use Rattle.work_shares.proofs.TakingBack.{Absorbs, left_step, left_ends, lead-last}
 use Rattle.work_shares.proofs.returns.take_back_from.Goals as goal
 
 pub take_back-requires : goal.take_back-requires

@@ -1,15 +1,12 @@
-use Rattle.std.proofs.Common.{rules, ◌≡◌, ◌+◌, ◌<◌, ℕ, List, [], ◌∷◌, Vec, Global, Some, IfSome, All, IsPermutation, map, flat_map, get_or, length, vec_len, slice_get, slice_index, refl, sym, ap, ◌∙◌, subst, arith}
-use Rattle.std.proofs.lemmas.List.{length-map, get_or-map}
-use Rattle.crossbeam_deque.specs.Handles.{worker_view}
+use Rattle.std.proofs.Common.{rules, ◌≡◌, List, [], ◌∷◌, Vec, Global, Some, IfSome, All, IsPermutation, map, flat_map, length, vec_len, slice_get, refl, sym, ap, ◌∙◌, subst}
 use Rattle.work_shares.specs.declared.block.Block.{Block}
 use Rattle.work_shares.specs.declared.theft.Theft.{Theft}
 use Rattle.work_shares.specs.declared.share.Share.{Share}
 use Rattle.work_shares.specs.Cuts.{dealt}
 use Rattle.work_shares.specs.Blocks.{extents_of}
-use Rattle.work_shares.specs.Rule.{GotAll}
-use Rattle.work_shares.specs.Owners.{Owner, parts_of, deque_of, LeadAllOn, IsDone, TookBack}
+use Rattle.work_shares.specs.Owners.{Owner, deque_of, LeadAllOn, IsDone, TookBack}
 use Rattle.work_shares.specs.Ways.{ways_from}
-use Rattle.work_shares.specs.Shares.{place_of, noted_by, AreDeal}
+use Rattle.work_shares.specs.Shares.{noted_by}
 use Rattle.work_shares.specs.Apart.{own_of, thefts_of, notes_of}
 use Rattle.work_shares.proofs.AllBack.{lengths_of, all_got}
 use Rattle.work_shares.proofs.Ties.{place_at, all_lead, all_done, owners_whole}
@@ -33,7 +30,7 @@ took_from : (owners was new : List Owner) (thefts given : List (Vec Theft Global
     → TookBack (λ d. ways_from (length owners) d 0 (lengths_of thefts)) (λ weight. all_got weight thefts) owners new
 took_from owners was new thefts given a b t =
     subst (λ (os : List Owner). TookBack (λ d. ways_from (length os) d 0 (lengths_of thefts)) (λ weight. all_got weight thefts) os new) a
-        (subst (λ (ts : List (Vec Theft Global)). TookBack (λ d. ways_from (length was) d 0 (lengths_of ts)) (λ weight. all_got weight ts) was new) b t)
+    (subst (λ (ts : List (Vec Theft Global)). TookBack (λ d. ways_from (length was) d 0 (lengths_of ts)) (λ weight. all_got weight ts) was new) b t)
 
 pub parted-owners-requires-clause-first : goal.parted-owners-requires-clause-first
 parted-owners-requires-clause-first g c =
@@ -61,7 +58,7 @@ pub learn_all-requires : goal.learn_all-requires
 learn_all-requires g c =
     let d = c.requires.deal in
     owners_whole d.0 d.1.0 c.args.shares.items _ c.take_back_all.new.owners.items d.1.1
-        (took_from (map own_of c.args.shares.items) c.parted-owners.result.owners.items c.take_back_all.new.owners.items (map thefts_of c.args.shares.items) c.parted-owners.result.thefts.items c.parted-owners.ensures.owners c.parted-owners.ensures.thefts c.take_back_all.ensures.took)
+    (took_from (map own_of c.args.shares.items) c.parted-owners.result.owners.items c.take_back_all.new.owners.items (map thefts_of c.args.shares.items) c.parted-owners.result.thefts.items c.parted-owners.ensures.owners c.parted-owners.ensures.thefts c.take_back_all.ensures.took)
 
 pub returns-clause-blocks : goal.returns-clause-blocks
 returns-clause-blocks g c = blocks_are c.args.shares.items c.parted-owners.result.notes.items c.parted-owners.ensures.notes

@@ -1,4 +1,4 @@
-use Rattle.std.proofs.Common.{ℕ, ap, sym, ◌∙◌, subst, Contains, arith}
+use Rattle.std.proofs.Common.{ap, sym, ◌∙◌, subst, Contains, arith}
 use Rattle.work_shares.specs.Cuts.{block_at, dealt}
 use Rattle.work_shares.specs.Places.{Place}
 use Rattle.work_shares.specs.Seats.{seat_left}
