@@ -1,25 +1,15 @@
 -- The positions of dealt blocks.
-use Rattle.std.proofs.Common.{ℕ, ◌+◌, ◌<◌, ◌≤◌, List, [], ◌∷◌, All, Contains, flat_map, refl, subst, arith}
+use Rattle.std.proofs.Common.{ℕ, ◌+◌, ◌<◌, ◌≤◌, List, All, Contains, flat_map, subst}
 use Rattle.std.specs.List.{range_with_len}
 use Rattle.std.specs.List.Sorted.{IsPermutation}
 use Rattle.std.proofs.lemmas.List.Elements.{All-contains}
 use Rattle.std.proofs.lemmas.List.Sorted.{All-permutation, IsPermutation-sym}
 use Rattle.work_shares.specs.declared.block.Block.{Block}
-use Rattle.work_shares.specs.declared.share.Share.{Share}
 use Rattle.work_shares.specs.Cuts.{dealt, positions_of}
 use Rattle.work_shares.specs.Blocks.{extents_of}
-use Rattle.work_shares.specs.Shares.{place_of, AreDeal}
 use Rattle.work_shares.proofs.Cover.{dealt-cover, dealt-within}
 use Rattle.steal_sweep.specs.Positions.{positions_in}
 use Rattle.steal_sweep.proofs.Lists.{All-flat_map, All-from_flat_map}
-
--- blocks have a size
-pub place_size : {L : Type 0} (s : Share L) → 0 < (place_of s).size
-place_size s = s.seat.cut.some
-
-pub deal_size : {L : Type 0} (total size : ℕ) (shares : List (Share L)) → AreDeal total size shares → 0 < size
-deal_size total size [] are = absurd (let s = are.some in omega arith)
-deal_size total size (s ∷ ss) are = subst (λ (n : ℕ). 0 < n) (are.each 0 (place_of s) refl).1 (place_size s)
 
 -- a dealt block ends within the deal
 pub block_within : (total size first count : ℕ) → 0 < size → Contains (dealt total size) (first, count) → first + count ≤ total

@@ -5,7 +5,7 @@ use Rattle.work_shares.specs.Shares.{load_of, blocks_of}
 use Rattle.steal_sweep.specs.declared.search.Seeker.{Seeker}
 use Rattle.steal_sweep.specs.Seats.{IsSeatOf, known_by}
 use Rattle.steal_sweep.proofs.Lists.{All-from_map}
-use Rattle.steal_sweep.proofs.Dealt.{deal_size}
+use Rattle.work_shares.proofs.Kept.{AreDeal-size}
 use Rattle.steal_sweep.proofs.Found.{covers_none, carried_by, parts_whole, no_hit_below, put_hits, word_is_least, none_below}
 use Rattle.steal_sweep.proofs.least.least_hit.Goals as goal
 
@@ -45,7 +45,7 @@ returns-then-word-sweep-clause-some g c =
     let once = c.settle.ensures.once total c.requires.deal.0 (c.for_each.ensures.deal total c.requires.deal.0 c.requires.deal.1) in
     word_is_least truth total c.close-word.result (known_by c.join_seats-seat.result).put c.if-word-sweep.true (search rules) c.close-word.ensures.put
     (c.join_seats-seat.ensures.hits truth total (put_hits truth total shares c.loads.result.items carried covered))
-    (no_hit_below truth total c.requires.deal.0 c.close-word.result (known_by c.join_seats-seat.result).least shares c.loads.result.items (blocks_of c.settle.result) (deal_size total c.requires.deal.0 c.args.shares.items c.requires.deal.1) carried c.settle.ensures.blocks once covered c.close-word.ensures.least c.join_seats-seat.ensures.least)
+    (no_hit_below truth total c.requires.deal.0 c.close-word.result (known_by c.join_seats-seat.result).least shares c.loads.result.items (blocks_of c.settle.result) (AreDeal-size total c.requires.deal.0 c.args.shares.items c.requires.deal.1) carried c.settle.ensures.blocks once covered c.close-word.ensures.least c.join_seats-seat.ensures.least)
 
 pub returns-else-word-sweep-clause-none : goal.returns-else-word-sweep-clause-none
 returns-else-word-sweep-clause-none g c =
@@ -56,4 +56,4 @@ returns-else-word-sweep-clause-none g c =
     let covered = λ (k : ℕ) (d : Share (Seeker g.row.L.Denot)) (lt : k < length shares). (c.for_each.ensures.stands k d lt).2 in
     let once = c.settle.ensures.once total c.requires.deal.0 (c.for_each.ensures.deal total c.requires.deal.0 c.requires.deal.1) in
     none_below truth total c.close-word.result c.if-word-sweep.false
-    (no_hit_below truth total c.requires.deal.0 c.close-word.result (known_by c.join_seats-seat.result).least shares c.loads.result.items (blocks_of c.settle.result) (deal_size total c.requires.deal.0 c.args.shares.items c.requires.deal.1) carried c.settle.ensures.blocks once covered c.close-word.ensures.least c.join_seats-seat.ensures.least)
+    (no_hit_below truth total c.requires.deal.0 c.close-word.result (known_by c.join_seats-seat.result).least shares c.loads.result.items (blocks_of c.settle.result) (AreDeal-size total c.requires.deal.0 c.args.shares.items c.requires.deal.1) carried c.settle.ensures.blocks once covered c.close-word.ensures.least c.join_seats-seat.ensures.least)
