@@ -11,7 +11,7 @@ pub mod TurnedColumns
 pub mod LeadRows
 pub mod RowOrder
 pub mod ColumnOrder
-pub mod ColumnList
+pub mod ListedColumns
 pub mod Horner
 pub mod ColumnSums
 pub mod KeptLabels
