@@ -24,6 +24,7 @@ ways_from-push workers deque first (m ∷ ms) n =
 abbrev pub lengths_of : List (Vec Theft Global) → List ℕ
 lengths_of thefts = map (λ (own : Vec Theft Global). length own.items) thefts
 
+-- what all thefts got, by a weight
 abbrev pub all_got : (Entry → ℕ) → List (Vec Theft Global) → ℕ
 all_got weight thefts = sum_by (λ (own : Vec Theft Global). sum_by (got_by weight) own.items) thefts
 
@@ -44,6 +45,7 @@ all_starts all old done lead short = record {
   taking = taking_starts (λ d. ways_from (length old) d 0 (lengths_of all)) (λ weight. all_got weight all) old;
 }
 
+-- once no theft is left, all is taken back
 pub all_ends : (all rest : List (Vec Theft Global)) (old new : List Owner) → rest ≡ [] → AreLeft all old rest new → TookBack (λ d. ways_from (length old) d 0 (lengths_of all)) (λ weight. all_got weight all) old new
 unfolding ways_from
 all_ends all rest old new none h = record {

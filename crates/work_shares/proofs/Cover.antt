@@ -17,6 +17,7 @@ range-append a (suc m) n =
     ap (λ (l : List ℕ). a ∷ l) (ap (λ k. range_with_len (a + 1) m ++ range_with_len k n) (omega arith) ∙ range-append (a + 1) m n)
     ∙ ap (range_with_len a) (let e : suc (m + n) ≡ suc m + n = omega arith in e)
 
+-- one of two numbers is no greater than the other
 cases_le : (m n : ℕ) → (m ≤ n) ⊎ (n ≤ m)
 cases_le m n = ⊎_elim (λ lt. inl (omega arith)) (λ le. inr le) (cases_lt m n)
 
@@ -42,6 +43,7 @@ cover_from total size k (suc m) enough =
     ∙ append-nil (f (total - k * size)))
     (cases_le size (total - k * size))
 
+-- all dealt blocks cover the positions below the total
 pub dealt-cover : (total size : ℕ) → 0 < size → flat_map positions_of (dealt total size) ≡ range_with_len 0 total
 unfolding dealt
 dealt-cover total size some =

@@ -7,10 +7,12 @@ use Rattle.work_shares.specs.declared.entry.Entry.{Entry}
 use Rattle.work_shares.specs.declared.entry.Entry.TheVariants.{Work, End}
 use Rattle.work_shares.specs.Entries.{ends, is_end}
 
+-- the list behind its first element
 abbrev rest : List Entry → List Entry
 rest [] = []
 rest (x ∷ xs) = xs
 
+-- the first element
 abbrev first : Entry → List Entry → Entry
 first d [] = d
 first d (x ∷ xs) = x

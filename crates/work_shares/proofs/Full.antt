@@ -10,6 +10,7 @@ use Rattle.work_shares.specs.Ways.{ways_of, ways_from}
 is_full : ℕ → ℕ → Bool
 is_full workers deque = ways_from workers deque 0 (replicate workers (workers - 1)) + 1 == workers
 
+-- it holds for each number of workers
 all_full : list_all (λ workers. list_all (is_full workers) (range_with_len 0 workers)) (range_with_len 0 9) ≡ true
 unfolding is_full ways_from ways_of
 all_full = refl
@@ -21,6 +22,7 @@ below_test p n k all lt =
     let here : p (get_or (range_with_len 0 n) k 0) ≡ true = AllPass-from_list_all p (range_with_len 0 n) all k 0 (omega (arith, length-range_with_len 0 n)) in
     subst (λ j. p j ≡ true) (at ∙ omega arith) here
 
+-- the same as an equation
 pub ways_full : (workers deque : ℕ) → workers ≤ 8 → deque < workers → ways_from workers deque 0 (replicate workers (workers - 1)) + 1 ≡ workers
 unfolding is_full
 ways_full workers deque few lt =
@@ -32,10 +34,12 @@ ways_full workers deque few lt =
 is_few : ℕ → ℕ → ℕ → Bool
 is_few workers deque n = nat_lt (ways_from workers deque 0 (replicate n (workers - 1))) 8
 
+-- it holds for each number of workers
 all_few : list_all (λ workers. list_all (λ deque. list_all (is_few workers deque) (range_with_len 0 (workers + 1))) (range_with_len 0 workers)) (range_with_len 0 9) ≡ true
 unfolding is_few ways_from ways_of
 all_few = refl
 
+-- the same as a bound
 pub ways_few : (workers deque n : ℕ) → workers ≤ 8 → deque < workers → n ≤ workers → ways_from workers deque 0 (replicate n (workers - 1)) < 8
 unfolding is_few
 ways_few workers deque n few lt le =

@@ -79,9 +79,11 @@ module _ {L : Type 0} (total size count workers : ℕ) (deques : List DequeId) (
     pub fresh : IsFresh s
     pub load_is : s.load ≡ load
 
+  -- the same place, counted from the next
   one_on : (n k : ℕ) → n + suc k ≡ n + 1 + k
   one_on n k = omega arith
 
+  -- one share more
   pub sharing_step : (n : ℕ) (owners left_owners : List Owner) (thefts left_thefts : List (Vec Theft Global)) (loads left_loads : List L) (shares more : List (Share L)) (own : Owner) (ways : Vec Theft Global) (load : L) (s : Share L)
       → owners ≡ own ∷ left_owners → thefts ≡ ways ∷ left_thefts → loads ≡ load ∷ left_loads → more ≡ shares ++ s ∷ [] → IsMade n own ways load s → IsSharing n owners thefts loads shares → IsSharing (n + 1) left_owners left_thefts left_loads more
   sharing_step n owners left_owners thefts left_thefts loads left_loads shares more own ways load s o t l is made h =

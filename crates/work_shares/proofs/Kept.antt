@@ -24,6 +24,7 @@ AreDeal-kept total block old new len each deal = subst (ArePlaces total block) (
 pub place-size : {L : Type 0} (s : Share L) → 0 < (place_of s).size
 place-size s = s.seat.cut.some
 
+-- the same, by the deal
 pub AreDeal-size : {L : Type 0} (total block : ℕ) (shares : List (Share L)) → AreDeal total block shares → 0 < block
 AreDeal-size total block [] deal = absurd (let none : 0 < 0 = deal.some in omega arith)
 AreDeal-size total block (s ∷ ss) deal = let same : (place_of s).size ≡ block = (deal.each 0 (place_of s) refl).1 in let some = place-size s in omega arith

@@ -13,6 +13,7 @@ use Rattle.work_shares.proofs.AllBack.{ways_from-push}
 use Rattle.work_shares.proofs.Full.{ways_few}
 use Rattle.work_shares.proofs.LendingOne.{slice_get-pushed}
 
+-- lenders stay as many
 lender_wide : (lent : ℕ → ℕ) (old now : List Owner) → IsLender lent old now → length now ≡ length old
 lender_wide lent old now h = sym (length-map now deque_of) ∙ ap length h.deques ∙ length-map old deque_of
 

@@ -35,6 +35,7 @@ standing-own number s t h m =
       marked = m.marked;
     }
 
+-- a try at the own deque keeps the place
 place-own : (number : Option ℕ) (s t : Seat) → TakesOwn number s t → place_of_seat t ≡ place_of_seat s
 place-own number s t m = ap place_of_seat m.rest ∙ rw m.deque refl
 
@@ -55,6 +56,7 @@ takes-own number s t h m = record {
   below-own None s t h m = tt
   below-own (Some n) s t h m = below_of (count_of s) s.workers s.worker n (subst (λ (l : List Entry). Contains l (Work n)) h.own m.gives.known)
 
+-- seats at one place have the same deques after them
 after-same : (s t : Seat) → place_of_seat t ≡ place_of_seat s → entries_after (count_of t) t.workers t.worker ≡ entries_after (count_of s) s.workers s.worker
 after-same s t place =
     let total : t.cut.total ≡ s.cut.total = ap (λ (p : Place). p.total) place in

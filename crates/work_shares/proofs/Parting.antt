@@ -38,6 +38,7 @@ module _ {L : Type 0} where
   holds_first P [] s some is h = absurd (omega arith)
   holds_first P (x ∷ xs) s some is h = subst P (sym is) h
 
+  -- one share more is taken apart
   pub parting_step : (all rest left : List (Share L)) (parts more : Parts L) (s : Share L) → 0 < length rest → s ≡ get_or rest 0 s → left ≡ remove rest 0 → Gains s.load s.seat parts more → HasRoom (length left) more → IsParting all rest parts → IsParting all left more
   parting_step all rest left parts more s some is less gains room h = record {
     owners = goes_over own_of parts.owners.items more.owners.items (map own_of all) s rest left some is less gains.owners h.owners;
@@ -47,6 +48,7 @@ module _ {L : Type 0} where
     room = room;
   }
 
+  -- all shares are taken apart
   pub parting_ends : (all rest : List (Share L)) (parts : Parts L) → rest ≡ [] → IsParting all rest parts → ArePartsOf all parts
   parting_ends all rest parts none h = record {
     owners = ends own_of parts.owners.items (map own_of all) rest none h.owners;

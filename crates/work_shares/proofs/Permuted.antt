@@ -5,9 +5,11 @@ use Rattle.std.proofs.lemmas.List.Sums.{sum_by-cons, sum_by-append}
 use Rattle.std.proofs.lemmas.List.Sorted.{IsPermutation-refl, IsPermutation-cons, IsPermutation-middle, IsPermutation-sym, IsPermutation-trans}
 use Rattle.std.proofs.lemmas.Bool.Decides.{nat_tests}
 
+-- a test of pairs
 abbrev same_pair : ℕ × ℕ → ℕ × ℕ → Bool
 same_pair p q = (p.0 == q.0) && (p.1 == q.1)
 
+-- the same as a number
 abbrev is_pair : ℕ × ℕ → ℕ × ℕ → ℕ
 is_pair p q = cond (same_pair p q) 1 0
 
@@ -18,6 +20,7 @@ pair_is p q e =
     let b : q.1 ≡ p.1 = grind (arith, nat_tests) in
     ap (λ k. (k, q.1)) a ∙ ap (λ k. (p.0, k)) b
 
+-- a pair passes its own test
 pair_same : (p : ℕ × ℕ) → same_pair p p ≡ true
 pair_same p = grind (arith, nat_tests)
 
@@ -25,6 +28,7 @@ pair_same p = grind (arith, nat_tests)
 abbrev Found : ℕ × ℕ → List (ℕ × ℕ) → Type 0
 Found p qs = (before : List (ℕ × ℕ)) × ((after : List (ℕ × ℕ)) × (qs ≡ before ++ p ∷ after))
 
+-- it is the first pair, or it comes later
 found_first : (p q : ℕ × ℕ) (qs : List (ℕ × ℕ)) (b : Bool) → same_pair p q ≡ b → 0 < sum_by (is_pair p) (q ∷ qs) → (0 < sum_by (is_pair p) qs → Found p qs) → Found p (q ∷ qs)
 found_first p q qs true e some rest = ([], (qs, ap (λ r. r ∷ qs) (pair_is p q e)))
 found_first p q qs false e some rest =
@@ -36,6 +40,7 @@ found : (p : ℕ × ℕ) (qs : List (ℕ × ℕ)) → 0 < sum_by (is_pair p) qs 
 found p [] some = absurd (omega arith)
 found p (q ∷ qs) some = found_first p q qs (same_pair p q) refl some (found p qs)
 
+-- where all sums are the same
 pub permuted : (ps qs : List (ℕ × ℕ)) → ((weight : ℕ × ℕ → ℕ) → sum_by weight ps ≡ sum_by weight qs) → IsPermutation ps qs
 permuted [] [] same = IsPermutation-refl []
 permuted [] (q ∷ qs) same = absurd (let one : ℕ × ℕ → ℕ = λ _. 1 in omega (arith, same one, sum_by-cons one q qs))

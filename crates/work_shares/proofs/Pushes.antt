@@ -24,6 +24,7 @@ sum_by-entries_of weight count workers worker =
     let numbers = numbers_of count workers worker in
     omega (arith, sum_by-append weight (map Work numbers) (replicate workers End), sum_by-works weight numbers, sum_by-replicate weight workers End)
 
+-- numbers weigh nothing as end marks
 none_of : (numbers : List ℕ) → sum_by (λ (number : ℕ). 0) numbers ≡ 0
 none_of [] = refl
 none_of (n ∷ ns) = omega (arith, sum_by-cons (λ (number : ℕ). 0) n ns, none_of ns)
@@ -37,6 +38,7 @@ pub IsBelow : ℕ → Entry → Type 0
 IsBelow count (Work number) = number < count
 IsBelow count End = Unit {0}
 
+-- the numbers of a range are below its end
 below_range : (count : ℕ) → All (λ number. number < count) (range_with_len 0 count)
 below_range count = All-from_get_or (λ number. number < count) (range_with_len 0 count) 0
     (λ i lt. omega (arith, get_or-range_with_len 0 count i 0 (omega (arith, length-range_with_len 0 count)), length-range_with_len 0 count))

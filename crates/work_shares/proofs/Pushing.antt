@@ -13,6 +13,7 @@ use Rattle.work_shares.specs.Rule.{all_parts}
 use Rattle.work_shares.specs.Owners.{Owner, pushed_of}
 use Rattle.work_shares.proofs.Steps.{is_own, numbers_start, numbers_step}
 
+-- the same worker after two steps
 pub same_twice : (a b c : Owner) → SameWorker a b → SameWorker b c → SameWorker a c
 same_twice a b c s t = (t.0 ∙ s.0, t.1 ∙ s.1, t.2 ∙ s.2, (let x = s.3 in let y = t.3 in omega arith))
 
@@ -22,6 +23,7 @@ pub record HasEnds (n : ℕ) (old new : Owner) : Type 0 where
   pub index : worker_index new ≡ worker_index old + n
   pub same : SameWorker old new
 
+-- none yet
 pub ends_start : (o : Owner) → (worker_view o).parts ≡ all_parts → HasEnds 0 o o
 ends_start o whole = record {
   view_is = ap (λ p. view p (pushed_of o) (worker_view o).got) whole ∙ ap (λ l. view all_parts l (worker_view o).got) (sym (append-nil (pushed_of o)));
@@ -29,6 +31,7 @@ ends_start o whole = record {
   same = (refl, refl, refl, omega arith);
 }
 
+-- one end mark more
 pub ends_step : (n : ℕ) (a b c : Owner) → HasEnds n a b → worker_view c ≡ view all_parts (pushed_of b ++ End ∷ []) (worker_view b).got → worker_index c ≡ worker_index b + 1 → SameWorker b c → HasEnds (n + 1) a c
 ends_step n a b c h is next same = record {
   view_is = is ∙ ap (λ (v : View). view all_parts (v.pushed ++ End ∷ []) v.got) h.view_is
@@ -46,6 +49,7 @@ pub record HasNumbers (count workers worker number : ℕ) (old new : Owner) : Ty
   pub within : worker_index new ≤ count / workers + 1
   pub same : SameWorker old new
 
+-- none yet
 pub has_start : (count workers worker : ℕ) (o : Owner) → worker < workers → worker_view o ≡ view all_parts [] [] → worker_index o ≡ 0 → HasNumbers count workers worker worker o o
 has_start count workers worker o lt is first = record {
   parts = ap (λ (v : View). v.parts) is;
@@ -60,6 +64,7 @@ has_start count workers worker o lt is first = record {
 pub index_within : (count workers worker number index : ℕ) → worker < workers → number ≡ worker + index * workers → number < count → index ≤ count / workers
 index_within count workers worker number index lt at more = (le-div_iff_mul-le (omega arith)).1 (omega arith)
 
+-- one number more
 pub has_step : (count workers worker number : ℕ) (a b c : Owner) → worker < workers → number < count → HasNumbers count workers worker number a b → worker_view c ≡ view all_parts (pushed_of b ++ Work number ∷ []) (worker_view b).got
     → worker_index c ≡ worker_index b + 1 → SameWorker b c → HasNumbers count workers worker (number + workers) a c
 has_step count workers worker number a b c lt more h is next same = record {
@@ -74,6 +79,7 @@ has_step count workers worker number a b c lt more h is next same = record {
   same = same_twice a b c h.same same;
 }
 
+-- all numbers are pushed
 pub has_all : (count workers worker number : ℕ) (a b : Owner) → count ≤ number → HasNumbers count workers worker number a b → worker_view b ≡ view all_parts (map Work (numbers_of count workers worker)) []
 has_all count workers worker number a b past h =
     let none : count - number ≡ 0 = omega arith in

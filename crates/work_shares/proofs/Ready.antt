@@ -13,6 +13,7 @@ use Rattle.work_shares.specs.Owners.{Owner, deque_of, parts_of, pushed_of, LeadO
 use Rattle.work_shares.specs.Lending.{LendsAll, AreGiven}
 use Rattle.work_shares.proofs.Full.{ways_full}
 
+-- functions with the same values
 map-each : {X Y : Type 0} (f g : X → Y) (xs : List X) → ((x : X) → f x ≡ g x) → map f xs ≡ map g xs
 map-each f g [] same = refl
 map-each f g (x ∷ xs) same = ap (λ y. y ∷ map f xs) (same x) ∙ ap (λ l. g x ∷ l) (map-each f g xs same)
@@ -24,10 +25,12 @@ filled_at count workers owners k h lt = at_head owners h.each (let l = h.length_
   at_head [] each below = absurd (omega arith)
   at_head (x ∷ xs) each below = let e = slice_get-get_or (x ∷ xs) k x below in (get_or (x ∷ xs) k x, e, each k (get_or (x ∷ xs) k x) e)
 
+-- f of an owner, by the list of all f
 at_mapped : {Y : Type 0} (f : Owner → Y) (owners : List Owner) (k : ℕ) (o : Owner) (y : Y) → slice_get owners k ≡ Some o → get_or (map f owners) k y ≡ f o
 at_mapped f owners k o y e = get_or-map f owners k o y (slice_get_within owners k o e) ∙ ap f (get_or_from_slice_get owners k o o e)
 
 module _ (count workers : ℕ) (old new : List Owner) (thefts : List (Vec Theft Global)) (filled : AreFilled count workers workers old) (lent : LendsAll (length old) thefts old new) where
+  -- owners stay as many
   wide : length new ≡ length old
   wide = sym (length-map new deque_of) ∙ ap length lent.lender.deques ∙ length-map old deque_of
 

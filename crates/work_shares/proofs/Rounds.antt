@@ -14,6 +14,7 @@ use Rattle.work_shares.specs.Thefts.{Steals, view_into, deque_into, pushed_into,
 pub steals_none : (thefts : List Theft) → Steals None thefts thefts
 steals_none thefts = record { deques = refl; pushed = refl; got = λ weight none. omega arith; left = omega arith; known = tt }
 
+-- the block that a theft gave was pushed into one of the deques
 known_at : (number : Option ℕ) (thefts : List Theft) (i : ℕ) (t : Theft) → i < length thefts → t ≡ get_or thefts i t → IfSome number (λ n. Contains (pushed_into t) (Work n))
     → IfSome number (λ n. Any (λ pushed. Contains pushed (Work n)) (map pushed_into thefts))
 known_at None thefts i t lt is known = tt

@@ -56,6 +56,7 @@ module _ {L : Type 0} (total size workers : ℕ) where
   abbrev StandFrom : ℕ → List (Share L) → Type 0
   StandFrom first shares = (k : ℕ) (s : Share L) → slice_get shares k ≡ Some s → StandsAt total size workers (first + k) s
 
+  -- the shares behind the first one
   rest_stands : (first : ℕ) (s : Share L) (ss : List (Share L)) → StandFrom first (s ∷ ss) → StandFrom (first + 1) ss
   rest_stands first s ss h k t e = let f = h (suc k) t e in (f.0, f.1, f.2, (let n = f.3 in omega arith))
 

@@ -21,9 +21,11 @@ skip p a (suc m) (suc j) none =
     let n : m - j ≡ suc m - suc j = omega arith in
     ap (λ b. cond b (a ∷ filter p (range_with_len (a + 1) m)) (filter p (range_with_len (a + 1) m))) here ∙ rest ∙ ap (λ k. filter p (range_with_len k (m - j))) s ∙ ap (λ k. filter p (range_with_len (a + suc j) k)) n
 
+-- a number that is not the worker's
 is_false : (workers worker number : ℕ) → number % workers ≢ worker → is_own workers worker number ≡ false
 is_false workers worker number other = grind (arith, nat_tests, other)
 
+-- a number that is the worker's
 is_true : (workers worker number : ℕ) → number % workers ≡ worker → is_own workers worker number ≡ true
 is_true workers worker number same = grind (arith, nat_tests)
 

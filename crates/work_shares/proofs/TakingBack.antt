@@ -23,9 +23,11 @@ pub record Taking (left all : ℕ → ℕ) (rest whole : (Entry → ℕ) → ℕ
   pub parts : (d : ℕ) → d < length old → slice_index (map parts_of new) d + left d ≡ slice_index (map parts_of old) d + all d
   pub got : (weight : Entry → ℕ) → sum_by (owner_got weight) new + rest weight ≡ sum_by (owner_got weight) old + whole weight
 
+-- nothing is taken back yet
 pub taking_starts : (all : ℕ → ℕ) (whole : (Entry → ℕ) → ℕ) (old : List Owner) → Taking all all whole whole old old
 taking_starts all whole old = record { deques = refl; pushed = refl; parts = λ d lt. refl; got = λ weight. refl }
 
+-- all is taken back
 pub taking_ends : (all : ℕ → ℕ) (rest whole : (Entry → ℕ) → ℕ) (old new : List Owner) → Taking (λ d. 0) all rest whole old new → ((weight : Entry → ℕ) → rest weight ≡ 0) → TookBack all whole old new
 taking_ends all rest whole old new t none = record {
   deques = t.deques;
@@ -39,18 +41,22 @@ pub record Absorbs (t : Theft) (old new : Owner) : Type 0 where
   pub deque : deque_of new ≡ deque_of old
   pub is : worker_view new ≡ view (parts_of old + (view_into t).parts) (pushed_of old) ((worker_view old).got ++ (view_into t).got)
 
+-- the part comes back
 absorbs_parts : (t : Theft) (o p : Owner) → Absorbs t o p → parts_of p ≡ parts_of o + 1
 absorbs_parts t o p a = ap (λ v. v.parts) a.is ∙ ap (λ n. parts_of o + n) t.one
 
+-- what the theft got comes back
 absorbs_got : (weight : Entry → ℕ) (t : Theft) (o p : Owner) → Absorbs t o p → owner_got weight p ≡ owner_got weight o + got_by weight t
 absorbs_got weight t o p a = ap (λ v. sum_by weight v.got) a.is ∙ sum_by-append weight (worker_view o).got (view_into t).got
 
+-- the owner may take back more
 pub done_absorbs : (t : Theft) (o p : Owner) → IsDone o → Absorbs t o p → IsDone p
 done_absorbs t o p h a = record {
   some = (let n = absorbs_parts t o p a in omega arith);
   marked = (let n = absorbs_got is_end t o p a in let m = h.marked in omega arith);
 }
 
+-- two numbers are equal or not
 same_or_other : (a b : ℕ) → (a ≡ b) ⊎ (a ≢ b)
 same_or_other a b = ⊎_elim (λ lt. inr (λ e. absurd (omega arith))) (λ le. ⊎_elim (λ lt. inr (λ e. absurd (omega arith))) (λ le'. inl (omega arith)) (cases_lt b a)) (cases_lt a b)
 
@@ -70,6 +76,7 @@ parts_step workers worker n at parts p d lt is more = ⊎_elim
     rw there (omega arith))
     (same_or_other d at)
 
+-- one theft less is left
 pub taking_step : (worker n at : ℕ) (all : ℕ → ℕ) (whole : (Entry → ℕ) → ℕ) (old now : List Owner) (done : List Theft) (t : Theft) (o p : Owner) → at < length now → o ≡ get_or now at o → (worker + 1 + n) % length old ≡ at → Absorbs t o p
     → Taking (λ d. ways_of (length old) d worker (suc n)) all (λ weight. sum_by (got_by weight) (done ++ t ∷ [])) whole old now
     → Taking (λ d. ways_of (length old) d worker n) all (λ weight. sum_by (got_by weight) done) whole old (set now at p)
@@ -120,9 +127,11 @@ pub record IsLeft (worker : ℕ) (all : List Theft) (old : List Owner) (rest : L
   pub wide : length now ≡ length old
   pub taking : Taking (λ d. ways_of (length old) d worker (length rest)) (λ d. ways_of (length old) d worker (length all)) (λ weight. sum_by (got_by weight) rest) (λ weight. sum_by (got_by weight) all) old now
 
+-- nothing is taken back yet
 pub left_starts : (worker : ℕ) (all : List Theft) (old : List Owner) → All IsDone old → LeadOn (map deque_of old) worker all → IsLeft worker all old all old
 left_starts worker all old done lead = record { done = done; lead = lead; wide = refl; taking = taking_starts (λ d. ways_of (length old) d worker (length all)) (λ weight. sum_by (got_by weight) all) old }
 
+-- all is taken back
 pub left_ends : (worker : ℕ) (all rest : List Theft) (old new : List Owner) → rest ≡ [] → IsLeft worker all old rest new
     → TookBack (λ d. ways_of (length old) d worker (length all)) (λ weight. sum_by (got_by weight) all) old new
 unfolding ways_of

@@ -10,6 +10,7 @@ use Rattle.work_shares.specs.Entries.{is_work, is_end, ends}
 use Rattle.work_shares.specs.Rule.{Took}
 use Rattle.work_shares.specs.Gives.{Gives}
 
+-- what a view got, with one entry more
 got_more : (v w : View) (x : Entry) (weight : Entry → ℕ) → Took v (x ∷ []) w → sum_by weight w.got ≡ sum_by weight v.got + weight x
 got_more v w x weight t = ap (λ (u : View). sum_by weight u.got) t.0 ∙ sum_by_push weight v.got x
 
@@ -21,6 +22,7 @@ contains_taken v w x t =
     subst (λ (pushed : List Entry). Contains pushed x) (sym t.2.2)
     (Contains-append_right before (x ∷ [] ++ after) x (Contains-append_left (x ∷ []) after x (0, omega arith, refl)))
 
+-- a block was taken
 pub takes_work : (v w : View) (x : Entry) (number : ℕ) → x ≡ Work number → Took v (x ∷ []) w → Gives (Some number) v w
 takes_work v w x number is t = record {
   parts = ap (λ (u : View). u.parts) t.0;
@@ -30,6 +32,7 @@ takes_work v w x number is t = record {
   known = subst (Contains v.pushed) is (contains_taken v w x t);
 }
 
+-- an end mark was taken
 pub takes_end : (v w : View) → Took v (End ∷ []) w → Gives None v w
 takes_end v w t = record {
   parts = ap (λ (u : View). u.parts) t.0;

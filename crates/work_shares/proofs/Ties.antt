@@ -25,6 +25,7 @@ slice_get-mapped f [] k y e = absurd cc
 slice_get-mapped f (x ∷ xs) zero y e = (x, (refl, cc))
 slice_get-mapped f (x ∷ xs) (suc k) y e = slice_get-mapped f xs k y e
 
+-- the same from the element
 pub slice_get-map_at : {X Y : Type 0} (f : X → Y) (xs : List X) (k : ℕ) (x : X) → slice_get xs k ≡ Some x → slice_get (map f xs) k ≡ Some (f x)
 slice_get-map_at f [] k x e = absurd cc
 slice_get-map_at f (z ∷ zs) zero x e = cc
@@ -38,6 +39,7 @@ module _ {L : Type 0} where
       let at = deal.each k (place_of s) (slice_get-map_at place_of shares k s e) in
       (at.0, at.1, at.2 ∙ length-map shares place_of, at.3)
 
+  -- the deques of the places are those of the owners
   deques_same : (shares : List (Share L)) → map (λ (q : Place). q.deque) (map place_of shares) ≡ map deque_of (map own_of shares)
   deques_same [] = refl
   deques_same (s ∷ ss) = ap (λ l. (place_of s).deque ∷ l) (deques_same ss)
@@ -59,6 +61,7 @@ module _ {L : Type 0} where
     marked = (let m = s.seated.stands.marked in m.over (m.ended ended));
   }
 
+  -- all owners may take back
   pub all_done : (shares : List (Share L)) → All (λ s. IsTrue (is_ended s)) shares → All IsDone (map own_of shares)
   all_done shares ended = All-map IsDone own_of shares (All-weaker (λ (s : Share L). IsTrue (is_ended s)) (λ s. IsDone (own_of s)) done_share shares ended)
 
@@ -81,9 +84,11 @@ module _ {L : Type 0} where
       let n : length s.seat.thefts.items ≡ workers - 1 = (let c = thefts_count s in omega arith) in
       ap (λ k. k ∷ lengths_of (map thefts_of ss)) n ∙ ap (λ l. (workers - 1) ∷ l) (counts_from workers ss (λ k d lt. each (suc k) d (omega arith)))
 
+  -- each share knows how many there are
   pub workers_same : (total size : ℕ) (shares : List (Share L)) → AreDeal total size shares → All (λ s. (place_of s).workers ≡ length shares) shares
   workers_same total size shares deal k d lt = (place_at total size shares deal k (get_or shares k d) (slice_get-get_or shares k d lt)).2
 
+  -- how many parts an owner has beside the others
   parts_at : (workers : ℕ) (shares : List (Share L)) (k : ℕ) → All (λ s. (place_of s).workers ≡ workers) shares → k < length shares → slice_index (map parts_of (map own_of shares)) k + workers ≡ 9
   parts_at workers [] k each lt = absurd (omega arith)
   parts_at workers (s ∷ ss) zero each lt = let w : (place_of s).workers ≡ workers = each 0 s (omega arith) in let p = s.seated.stands.parts in omega arith

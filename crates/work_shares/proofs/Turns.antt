@@ -21,10 +21,12 @@ parts_of v = v.parts
 abbrev got_of : (Entry → ℕ) → View → ℕ
 got_of weight v = sum_by weight v.got
 
+-- the only view
 one_view : (v : View) (j : ℕ) (u : View) → get_elem? (v ∷ []) j ≡ some u → v ≡ u
 one_view v zero u e = some-injective v u e
 one_view v (suc j) u e = absurd (some-ne-none u (sym e))
 
+-- an entry is one end mark at most
 mark_le : (x : Entry) → is_end x ≤ 1
 mark_le (Work number) = omega arith
 mark_le End = omega arith
