@@ -1,5 +1,5 @@
 -- What the laws of this crate say.
-use Rattle.std.specs.Prelude.{◌≡◌, ◌↔◌, ℕ, ◌<◌, ◌≤◌, List}
+use Rattle.std.specs.Prelude.{◌≡◌, ◌↔◌, ℕ, ◌<◌, ◌≤◌, Bool, IsTrue, List}
 use Rattle.channel_rep.specs.Tables.{ScaledTable, IsCircuitChannel}
 use Rattle.channel_rep.specs.Words.{IsWord}
 use Rattle.coset_label.specs.Cosets.{SameCoset, SameCosetWords, DiffersByPermutation}
@@ -10,6 +10,11 @@ use Rattle.coset_label.specs.Tags.{tag_of}
 abbrev pub LabelsTellCosets : Type 0
 LabelsTellCosets = (n : ℕ) → 0 < n → n ≤ 3 → (a b : ScaledTable) → IsCircuitChannel n a → IsCircuitChannel n b → (label other : Label)
     → IsLabelOf n a label → IsLabelOf n b other → (label ≡ other) ↔ SameCoset n a b
+
+-- an answer tells of two labels whether the circuits' channels that have them lie in one coset
+abbrev pub TellsCosets : ℕ → Label → Label → Bool → Type 0
+TellsCosets n label other answer = (a b : ScaledTable) → IsCircuitChannel n a → IsCircuitChannel n b → IsLabelOf n a label → IsLabelOf n b other
+    → IsTrue answer ↔ SameCoset n a b
 
 -- two circuits' channels M and M' lie in one coset exactly where M = M'·Π for a signed permutation Π
 abbrev pub CosetsDifferByPermutations : Type 0

@@ -29,8 +29,10 @@ pub record IsKept (m : ChannelGrid) (negative : List Bool) (order : List ℕ) : 
   pub places : length order ≡ 4 ^ m.qubits
   pub below : All (λ column. column < 4 ^ m.qubits) order
 
--- the same, and room for a lead row of each column
+-- the same on one to three qubits, and room for a lead row of each column
 pub record IsScratch (m : ChannelGrid) (leads : List ℕ) (negative : List Bool) (order : List ℕ) : Type 0 where
+  pub some : 0 < m.qubits
+  pub few : m.qubits ≤ 3
   pub rows : length leads ≡ 4 ^ m.qubits
   pub kept : IsKept m negative order
 

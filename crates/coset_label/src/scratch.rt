@@ -3,6 +3,7 @@ ghost use Rattle.std.specs.Prelude.{◌≡◌, ℕ, ◌^◌, ◌<◌, ◌≤◌,
 ghost use Rattle.channel_rep.specs.Cells.{scaled, IsReduced};
 ghost use Rattle.channel_rep.specs.Tables.{IsBuiltOf};
 ghost use Rattle.coset_label.specs.Labels.{IsLabelOf, IsLabelOfWord};
+ghost use Rattle.coset_label.specs.Laws.{TellsCosets};
 ghost use Rattle.coset_label.specs.Tags.{tag_of};
 ghost use Rattle.coset_label.specs.Scratch.{IsScratch, kept_label};
 ghost use Rattle.coset_label.specs.Words.{word_steps};
@@ -130,10 +131,12 @@ pub fn label_of_word(w: Word, s: &mut Scratch)
     put_in_order(&s.channel, &mut s.leads, &mut s.negative, &mut s.order);
 }
 
-/// Whether two labels are equal.
-pub fn same_label(a: &Scratch, b: &Scratch) -> bool
+/// Whether two labels are equal. They are on one to three qubits.
+fn equal_labels(a: &Scratch, b: &Scratch) -> bool
     requires { a.now.qubits ≡ b.now.qubits }
-    ensures { IsTrue result ↔ (a.now.label ≡ b.now.label) }
+    ensures equal { IsTrue result ↔ (a.now.label ≡ b.now.label) }
+    ensures some { 0 < a.now.qubits }
+    ensures few { a.now.qubits ≤ 3 }
 {
     a.channel.exponent() == b.channel.exponent()
         && same_columns(
@@ -144,6 +147,15 @@ pub fn same_label(a: &Scratch, b: &Scratch) -> bool
             &b.negative,
             &b.order,
         )
+}
+
+/// Whether two labels are equal, which of circuits' channels they are exactly where the channels lie in one coset.
+pub fn same_label(a: &Scratch, b: &Scratch) -> bool
+    requires { a.now.qubits ≡ b.now.qubits }
+    ensures equal { IsTrue result ↔ (a.now.label ≡ b.now.label) }
+    ensures cosets { TellsCosets a.now.qubits a.now.label b.now.label result }
+{
+    equal_labels(a, b)
 }
 
 /// The tag of a label, a number of 38 bits: equal labels have equal tags, and others mostly don't.
