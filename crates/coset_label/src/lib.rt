@@ -7,6 +7,7 @@
 #![tactic(auto)]
 
 mod columns;
+pub mod laws;
 mod same;
 mod scratch;
 mod sums;
