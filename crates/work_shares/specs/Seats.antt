@@ -26,6 +26,10 @@ place_of_seat s = record {
   others = map deque_into s.thefts.items;
 }
 
+-- the seat has taken an end mark from its own deque, behind which no block stands
+abbrev pub HasOwnMark : Seat → Type 0
+HasOwnMark s = 0 < ends (own_view s).got
+
 -- how many blocks the deal has
 abbrev pub count_of : Seat → ℕ
 count_of s = block_count s.cut.total s.cut.size
@@ -41,7 +45,7 @@ seat_got weight s = sum_by weight (own_view s).got + sum_by (got_by weight) s.th
 -- the marks of a seat: it is over where it got an end mark of its own, and it has not ended before
 pub record IsMarked (s : Seat) : Type 0 where
   pub going : s.over ≡ false → ends (own_view s).got ≡ 0
-  pub over : s.over ≡ true → 0 < ends (own_view s).got
+  pub over : s.over ≡ true → HasOwnMark s
   pub ended : s.ended ≡ true → s.over ≡ true
 
 -- a try to take from the seat's own deque gave the number of a block, or none, and then the seat is over

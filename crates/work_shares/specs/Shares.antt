@@ -4,7 +4,7 @@ use Rattle.std.specs.declared.alloc.Global.{Global}
 use Rattle.work_shares.specs.declared.block.Block.{Block}
 use Rattle.work_shares.specs.declared.share.Share.{Share}
 use Rattle.work_shares.specs.declared.settling.Settled.{Settled}
-use Rattle.work_shares.specs.Seats.{place_of_seat, seat_left}
+use Rattle.work_shares.specs.Seats.{place_of_seat, seat_left, HasOwnMark}
 use Rattle.work_shares.specs.Places.{Place, ArePlaces}
 
 module _ {L : Type 0} where
@@ -19,6 +19,10 @@ module _ {L : Type 0} where
   -- whether a call for a block was answered by none
   abbrev pub is_ended : Share L → Bool
   is_ended s = s.seat.ended
+
+  -- the share has taken an end mark from its own deque, behind which no block stands
+  abbrev pub HasOwnEnd : Share L → Type 0
+  HasOwnEnd s = HasOwnMark s.seat
 
   -- how many blocks the share may still be given
   abbrev pub share_left : Share L → ℕ

@@ -39,7 +39,7 @@ fn steal_round(thefts: &mut Vec<Theft>) -> Option<u32>
 }
 
 impl Seat {
-    ghost use Rattle.work_shares.specs.Seats.{IsSeated, IsStanding, Takes, TakesOwn, place_of_seat, seat_left};
+    ghost use Rattle.work_shares.specs.Seats.{IsSeated, IsStanding, Takes, TakesOwn, HasOwnMark, place_of_seat, seat_left};
 
     // The number of the next block of its own deque, if there is one.
     fn take_own(&mut self) -> Option<u32>
@@ -91,6 +91,7 @@ impl Seat {
         ensures dealt { IfSome result (λ block. Contains (dealt self.old.cut.total self.old.cut.size) (extent_of block)) }
         ensures fewer { IfSome result (λ _. seat_left self.new < seat_left self.old) }
         ensures none { IfNone result (self.new.noted.items ≡ self.old.noted.items) }
+        ensures own_end { IfNone result (HasOwnMark self.new) }
     {
         match self.take() {
             Some(number) => {

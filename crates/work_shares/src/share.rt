@@ -22,7 +22,7 @@ pub struct Share<L> {
 }
 
 impl<L> Share<L> {
-    ghost use Rattle.work_shares.specs.Shares.{place_of, noted_by, is_ended, share_left};
+    ghost use Rattle.work_shares.specs.Shares.{place_of, noted_by, is_ended, share_left, HasOwnEnd};
 
     /// A block that no other `next` of this deal gives. `None` only once this share's own deque has no more blocks; those
     /// that still lie in other deques are taken by their owners.
@@ -37,6 +37,7 @@ impl<L> Share<L> {
         ensures dealt { IfSome result (λ block. Contains (dealt (place_of self.old).total (place_of self.old).size) (extent_of block)) }
         ensures fewer { IfSome result (λ _. share_left self.new < share_left self.old) }
         ensures none { IfNone result (noted_by self.new ≡ noted_by self.old) }
+        ensures own_end { IfNone result (HasOwnEnd self.new) }
     {
         self.seat.next()
     }

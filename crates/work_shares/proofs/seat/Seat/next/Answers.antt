@@ -23,3 +23,6 @@ returns-in-Some-clause-fewer c = let l = c.in-Some.ensures.left in omega arith
 
 pub returns-in-None-clause-seated : goal.returns-in-None-clause-seated
 returns-in-None-clause-seated c = seated-ended c.args.self.now c.take.new.self c.requires c.in-None.ensures
+
+pub returns-in-None-clause-own_end : goal.returns-in-None-clause-own_end
+returns-in-None-clause-own_end c = let took = c.in-None.ensures in took.stands.marked.over took.over
