@@ -11,6 +11,7 @@ pub mod TurnedColumns
 pub mod LeadRows
 pub mod RowOrder
 pub mod ColumnOrder
+pub mod ColumnRuns
 pub mod ListedColumns
 pub mod Horner
 pub mod ColumnSums

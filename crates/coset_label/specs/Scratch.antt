@@ -1,6 +1,8 @@
 -- What contracts see of a `Scratch`: the label that it holds. And how the label is kept: the channel's cells as they are,
 -- which column stands at each place, and which columns have their signs turned.
-use Rattle.std.specs.Prelude.{◌≡◌, ◌≢◌, ℕ, ◌^◌, ◌<◌, ◌≤◌, neg_ℤ, Bool, false, if◌then◌else◌, List, length, map, All, slice_index, slice_index_or}
+use Rattle.std.specs.Prelude.{◌≡◌, ◌≢◌, ℕ, ◌+◌, ◌^◌, ◌<◌, ◌≤◌, neg_ℤ, Bool, false, if◌then◌else◌, List, length, map, All, slice_index, slice_index_or}
+use Rattle.std.specs.Ordering.{int_cmp, is_lt}
+use Rattle.std.specs.Cmp.Lexicographic.{slice_cmp}
 use Rattle.tc_ring.specs.Surds.{Surd, zero_surd}
 use Rattle.channel_rep.specs.Tables.{signed}
 use Rattle.channel_rep.specs.Cells.{ChannelGrid, table_of}
@@ -59,6 +61,22 @@ pub record KnowsLeads (m : ChannelGrid) (size : ℕ) (leads : List ℕ) (negativ
   pub places : length leads ≡ size
   pub signs : length negative ≡ size
   pub settled : AreLeads m leads negative
+
+-- whether a column with its sign fixed comes before another in the label's order
+abbrev pub precedes : ChannelGrid → ℕ → ℕ → Bool
+precedes m x y = is_lt (slice_cmp int_cmp (fixed_column m x) (fixed_column m y))
+
+-- the lead row of the column that stands at a place
+abbrev pub lead_at : List ℕ → List ℕ → ℕ → ℕ
+lead_at leads order place = slice_index leads (slice_index order place)
+
+-- no column leads later than the one before it
+abbrev pub LeadsFall : List ℕ → List ℕ → Type 0
+LeadsFall leads order = (place : ℕ) → place + 1 < length order → lead_at leads order (place + 1) ≤ lead_at leads order place
+
+-- from one place up to another all columns have one lead row
+abbrev pub HaveOneLead : List ℕ → List ℕ → ℕ → ℕ → Type 0
+HaveOneLead leads order from to = (place : ℕ) → from ≤ place → place < to → lead_at leads order place ≡ lead_at leads order from
 
 -- the cell of a row that stands at a place, with its column's sign
 abbrev pub cell_at : (ℕ → Surd) → List Bool → List ℕ → ℕ → Surd
