@@ -97,6 +97,19 @@ fn words_have_these_exponents_and_tags(rt: HostRuntime) -> Result<(), Fail> {
 }
 
 #[test]
+fn letters_that_commute_may_change_places(rt: HostRuntime) -> Result<(), Fail> {
+    let rows: [(&[u8], &[u8], bool); 2] = [(&[15, 3], &[3, 15], true), (&[1, 3], &[3, 1], false)];
+    for (codes, others, equal) in rows {
+        let mut s = Scratch::new(rt.alloc(), 2)?;
+        let mut t = Scratch::new(rt.alloc(), 2)?;
+        label_of_word(word(2, codes)?, &mut s);
+        label_of_word(word(2, others)?, &mut t);
+        assert_eq!(rt; same_label(&s, &t), equal, "{codes:?} and {others:?}");
+    }
+    Ok(())
+}
+
+#[test]
 fn a_channel_has_the_label_of_its_word(rt: HostRuntime) -> Result<(), Fail> {
     let mut c = Channel::identity(rt.alloc(), 3)?;
     c.left_rotation(pauli(3, 54)?);
