@@ -1,45 +1,59 @@
--- The blocks of all workers are those dealt, each once.
-use Rattle.std.proofs.Common.{◌≡◌, ℕ, suc, ◌+◌, ◌<◌, List, Vec, Global, [], ◌∷◌, Some, All, IsPermutation, map, flat_map, length, slice_get, refl, sym, ap, ◌∙◌, arith}
+-- The blocks of all workers are dealt ones, none more than once; and all of them, once all shares have ended.
+use Rattle.std.proofs.Common.{◌≡◌, ℕ, suc, ◌+◌, ◌*◌, ◌<◌, ◌≤◌, List, Vec, Global, [], ◌∷◌, Some, All, IsPermutation, map, flat_map, length, replicate, slice_get, refl, sym, ap, ◌∙◌, mul-zero, arith}
 use Rattle.std.specs.List.{sum_by, range_with_len}
 use Rattle.std.proofs.lemmas.List.{length-map}
 use Rattle.std.proofs.lemmas.List.Sums.{sum_by-cons, sum_by-append}
+use Rattle.std.proofs.lemmas.List.Folds.{sum_by-replicate}
 use Rattle.crossbeam_deque.specs.Handles.{worker_view}
 use Rattle.work_shares.specs.declared.share.Share.{Share}
-use Rattle.work_shares.specs.declared.entry.View.{View}
 use Rattle.work_shares.specs.declared.theft.Theft.{Theft}
 use Rattle.work_shares.specs.declared.entry.Entry.{Entry}
 use Rattle.work_shares.specs.declared.entry.Entry.TheVariants.{Work, End}
-use Rattle.work_shares.specs.Cuts.{block_at, block_count, dealt, numbers_of}
+use Rattle.work_shares.specs.Cuts.{block_at, block_count, dealt, numbers_of, AreApart}
 use Rattle.work_shares.specs.Blocks.{extents_of}
-use Rattle.work_shares.specs.Entries.{ends, weight_of, entries_of}
-use Rattle.work_shares.specs.Rule.{GotAll}
+use Rattle.work_shares.specs.Entries.{weight_of, entries_of}
+use Rattle.work_shares.specs.Rule.{Learnt}
 use Rattle.work_shares.specs.Thefts.{got_by}
 use Rattle.work_shares.specs.Seats.{seat_got}
-use Rattle.work_shares.specs.Owners.{Owner, pushed_of, owner_got, IsDone, TookBack}
+use Rattle.work_shares.specs.Owners.{Owner, pushed_of, owner_got, HasMark}
 use Rattle.work_shares.specs.Shares.{place_of, noted_by, AreDeal}
 use Rattle.work_shares.specs.Apart.{own_of, thefts_of}
 use Rattle.work_shares.proofs.Counts.{sum_by-mapped, sum_by-numbers_of}
-use Rattle.work_shares.proofs.Permuted.{permuted}
+use Rattle.work_shares.proofs.Permuted.{part_of, permuted}
 use Rattle.work_shares.proofs.AllBack.{all_got}
 use Rattle.work_shares.proofs.Ties.{place_at}
 
--- an owner that got all has got each block of its deque, by weight
-got_own : (weight : Entry → ℕ) (count workers worker : ℕ) (v : View) → v.pushed ≡ entries_of count workers worker → 0 < ends v.got → GotAll v [] → weight End ≡ 0 → sum_by weight v.got ≡ sum_by (λ number. weight (Work number)) (numbers_of count workers worker)
-unfolding entries_of
-got_own weight count workers worker v pushed marked all none = all (numbers_of count workers worker) workers pushed marked weight none
+-- what the blocks of a worker's deque weigh
+abbrev blocks_weigh : (Entry → ℕ) → ℕ → ℕ → ℕ → ℕ
+blocks_weigh weight count workers worker = sum_by (λ number. weight (Work number)) (numbers_of count workers worker)
 
--- the owners from one on have got each block of their deques
-got_owners : (weight : Entry → ℕ) (count workers first : ℕ) (owners : List Owner) → map pushed_of owners ≡ map (entries_of count workers) (range_with_len first (length owners)) → All IsDone owners → All (λ o. GotAll (worker_view o) []) owners → weight End ≡ 0
-    → sum_by (owner_got weight) owners ≡ sum_by (λ d. sum_by (λ number. weight (Work number)) (numbers_of count workers d)) (range_with_len first (length owners))
-got_owners weight count workers first [] pushed done all none = refl
-got_owners weight count workers first (o ∷ os) pushed done all none =
-    let own : pushed_of o ≡ entries_of count workers first = head_same pushed in
-    let rest : map pushed_of os ≡ map (entries_of count workers) (range_with_len (first + 1) (length os)) = tail_same pushed in
-    let marked = (done 0 o (omega arith)).marked in
-    let here = got_own weight count workers first (worker_view o) own marked (all 0 o (omega arith)) none in
-    let there = got_owners weight count workers (first + 1) os rest (λ k d lt. done (suc k) d (omega arith)) (λ k d lt. all (suc k) d (omega arith)) none in
-    let f : ℕ → ℕ = λ d. sum_by (λ number. weight (Work number)) (numbers_of count workers d) in
-    omega (arith, sum_by-cons (owner_got weight) o os, sum_by-cons f first (range_with_len (first + 1) (length os)))
+-- what was pushed weighs what the blocks do, where end marks weigh nothing
+pushed_weighs : (weight : Entry → ℕ) (count workers worker : ℕ) → weight End ≡ 0 → sum_by weight (entries_of count workers worker) ≡ blocks_weigh weight count workers worker
+unfolding entries_of
+pushed_weighs weight count workers worker none =
+    let marks : sum_by weight (replicate workers End) ≡ 0 = sum_by-replicate weight workers End ∙ ap (λ k. workers * k) none ∙ mul-zero workers in
+    omega (arith, sum_by-append weight (map Work (numbers_of count workers worker)) (replicate workers End), sum_by-mapped weight Work (numbers_of count workers worker))
+
+-- an owner has got no block of its deque twice, and each block where it has an end mark
+got_own : (weight : Entry → ℕ) (count workers worker : ℕ) (owner : Owner) → pushed_of owner ≡ entries_of count workers worker → Learnt (worker_view owner) [] → weight End ≡ 0
+    → (owner_got weight owner ≤ blocks_weigh weight count workers worker) × (HasMark owner → owner_got weight owner ≡ blocks_weigh weight count workers worker)
+unfolding entries_of
+got_own weight count workers worker owner pushed learnt none = (
+  omega (arith, learnt.apart weight, ap (sum_by weight) pushed, pushed_weighs weight count workers worker none),
+  λ marked. learnt.all (numbers_of count workers worker) workers pushed marked weight none,
+)
+
+-- the same of all owners from one on
+got_owners : (weight : Entry → ℕ) (count workers first : ℕ) (owners : List Owner) → map pushed_of owners ≡ map (entries_of count workers) (range_with_len first (length owners)) → All (λ o. Learnt (worker_view o) []) owners → weight End ≡ 0
+    → (sum_by (owner_got weight) owners ≤ sum_by (blocks_weigh weight count workers) (range_with_len first (length owners)))
+    × (All HasMark owners → sum_by (owner_got weight) owners ≡ sum_by (blocks_weigh weight count workers) (range_with_len first (length owners)))
+got_owners weight count workers first [] pushed learnt none = (omega arith, λ marked. refl)
+got_owners weight count workers first (o ∷ os) pushed learnt none =
+    let here = got_own weight count workers first o (head_same pushed) (learnt 0 o (omega arith)) none in
+    let there = got_owners weight count workers (first + 1) os (tail_same pushed) (λ k d lt. learnt (suc k) d (omega arith)) none in
+    let one = sum_by-cons (owner_got weight) o os in
+    let two = sum_by-cons (blocks_weigh weight count workers) first (range_with_len (first + 1) (length os)) in
+    (omega (arith, here.0, there.0), λ marked. omega (arith, here.1 (marked 0 o (omega arith)), there.1 (λ k d lt. marked (suc k) d (omega arith))))
   where
     head_same : {X : Type 0} {x y : X} {xs ys : List X} → x ∷ xs ≡ y ∷ ys → x ≡ y
     head_same e = cc
@@ -87,26 +101,45 @@ module _ {L : Type 0} (total size workers : ℕ) where
         sum_by-cons (λ (own : Vec Theft Global). sum_by (got_by w) own.items) (thefts_of s) (map thefts_of ss),
       )
 
--- the blocks that all workers noted are those dealt, each once
-pub once_dealt : {L : Type 0} (total size : ℕ) (shares : List (Share L)) (back : ℕ → ℕ) (new : List Owner) → AreDeal total size shares → TookBack back (λ weight. all_got weight (map thefts_of shares)) (map own_of shares) new → All IsDone new
-    → All (λ o. GotAll (worker_view o) []) new → IsPermutation (dealt total size) (flat_map extents_of (map noted_by shares))
-unfolding dealt
-once_dealt {L} total size shares back new deal took done all = permuted (dealt total size) (flat_map extents_of (map noted_by shares)) (λ weight.
-    let workers = length shares in
-    let count = block_count total size in
-    let w : Entry → ℕ = weight_of weight total size in
-    let h : ℕ → ℕ = λ number. weight (block_at total size number) in
-    let some : 0 < workers = (let s = deal.some in omega (arith, length-map shares place_of)) in
-    let stand = stand_all total size shares deal in
-    let wide : length new ≡ workers = sym (length-map new pushed_of) ∙ ap length took.pushed ∙ length-map (map own_of shares) pushed_of ∙ length-map shares own_of in
-    let pushed : map pushed_of new ≡ map (entries_of count workers) (range_with_len 0 (length new)) = took.pushed ∙ pushed_from total size workers 0 shares stand ∙ ap (λ n. map (entries_of count workers) (range_with_len 0 n)) (sym wide) in
-    let got = got_owners w count workers 0 new pushed done all refl in
-    sum_by-mapped weight (block_at total size) (range_with_len 0 count)
-    ∙ sym (sum_by-numbers_of h count workers some)
-    ∙ ap (λ n. sum_by (λ d. sum_by h (numbers_of count workers d)) (range_with_len 0 n)) (sym wide)
-    ∙ sym got
-    ∙ took.got w
-    ∙ sym (noted_from total size workers weight 0 shares stand))
-  where
-    stand_all : {L : Type 0} (total size : ℕ) (shares : List (Share L)) → AreDeal total size shares → StandFrom total size (length shares) 0 shares
-    stand_all total size shares deal k s e = let at = place_at total size shares deal k s e in (at.0, at.1, at.2, (let n = at.3 in omega arith))
+-- the owners of a deal's shares learnt this, with all thefts taken back
+pub record Settling {L : Type 0} (total size : ℕ) (shares : List (Share L)) (new : List Owner) : Type 0 where
+  pub deal : AreDeal total size shares
+  pub pushed : map pushed_of new ≡ map pushed_of (map own_of shares)
+  pub got : (weight : Entry → ℕ) → sum_by (owner_got weight) new ≡ sum_by (owner_got weight) (map own_of shares) + all_got weight (map thefts_of shares)
+  pub learnt : All (λ o. Learnt (worker_view o) []) new
+
+module _ {L : Type 0} (total size : ℕ) (shares : List (Share L)) (new : List Owner) (s : Settling total size shares new) where
+  -- each share stands at its place
+  stand_all : StandFrom total size (length shares) 0 shares
+  stand_all k t e = let at = place_at total size shares s.deal k t e in (at.0, at.1, at.2, (let n = at.3 in omega arith))
+
+  -- what the dealt blocks weigh, by the deques that they went into
+  dealt_weigh : (weight : ℕ × ℕ → ℕ) → sum_by weight (dealt total size) ≡ sum_by (blocks_weigh (weight_of weight total size) (block_count total size) (length shares)) (range_with_len 0 (length new))
+  unfolding dealt
+  dealt_weigh weight =
+      let count = block_count total size in
+      let h : ℕ → ℕ = λ number. weight (block_at total size number) in
+      let some : 0 < length shares = (let t = s.deal.some in omega (arith, length-map shares place_of)) in
+      let wide : length new ≡ length shares = sym (length-map new pushed_of) ∙ ap length s.pushed ∙ length-map (map own_of shares) pushed_of ∙ length-map shares own_of in
+      sum_by-mapped weight (block_at total size) (range_with_len 0 count)
+      ∙ sym (sum_by-numbers_of h count (length shares) some)
+      ∙ ap (λ n. sum_by (λ d. sum_by h (numbers_of count (length shares) d)) (range_with_len 0 n)) (sym wide)
+
+  -- the blocks that all workers noted weigh no more than those dealt, and as much where all owners have end marks
+  noted_weigh : (weight : ℕ × ℕ → ℕ) → (sum_by weight (flat_map extents_of (map noted_by shares)) ≤ sum_by weight (dealt total size))
+      × (All HasMark new → sum_by weight (dealt total size) ≡ sum_by weight (flat_map extents_of (map noted_by shares)))
+  noted_weigh weight =
+      let w : Entry → ℕ = weight_of weight total size in
+      let wide : length new ≡ length shares = sym (length-map new pushed_of) ∙ ap length s.pushed ∙ length-map (map own_of shares) pushed_of ∙ length-map shares own_of in
+      let pushed = s.pushed ∙ pushed_from total size (length shares) 0 shares stand_all ∙ ap (λ n. map (entries_of (block_count total size) (length shares)) (range_with_len 0 n)) (sym wide) in
+      let got = got_owners w (block_count total size) (length shares) 0 new pushed s.learnt refl in
+      let noted = noted_from total size (length shares) weight 0 shares stand_all in
+      (omega (arith, got.0, s.got w, noted, dealt_weigh weight), λ marked. omega (arith, got.1 marked, s.got w, noted, dealt_weigh weight))
+
+  -- no block was noted twice
+  pub apart_dealt : AreApart total size (flat_map extents_of (map noted_by shares))
+  apart_dealt = part_of (flat_map extents_of (map noted_by shares)) (dealt total size) (λ weight. (noted_weigh weight).0)
+
+  -- where all owners have end marks, each dealt block was noted once
+  pub once_dealt : All HasMark new → IsPermutation (dealt total size) (flat_map extents_of (map noted_by shares))
+  once_dealt marked = permuted (dealt total size) (flat_map extents_of (map noted_by shares)) (λ weight. (noted_weigh weight).1 marked)

@@ -13,7 +13,7 @@ use Rattle.work_shares.specs.declared.theft.Theft.{Theft}
 use Rattle.work_shares.specs.Entries.{view, is_end}
 use Rattle.work_shares.specs.Thefts.{DequeId, deque_into, view_into, got_by}
 use Rattle.work_shares.specs.Ways.{ways_of}
-use Rattle.work_shares.specs.Owners.{Owner, deque_of, parts_of, pushed_of, owner_got, LeadOn, IsDone, TookBack}
+use Rattle.work_shares.specs.Owners.{Owner, deque_of, parts_of, pushed_of, owner_got, LeadOn, IsLive, HasMark, TookBack}
 use Rattle.work_shares.proofs.Indexes.{slice_get-front, slice_get-last, get_or-mapped}
 
 -- so many parts are to come back in all, of which these are left, and the same for what was got
@@ -50,11 +50,12 @@ absorbs_got : (weight : Entry → ℕ) (t : Theft) (o p : Owner) → Absorbs t o
 absorbs_got weight t o p a = ap (λ v. sum_by weight v.got) a.is ∙ sum_by-append weight (worker_view o).got (view_into t).got
 
 -- the owner may take back more
-pub done_absorbs : (t : Theft) (o p : Owner) → IsDone o → Absorbs t o p → IsDone p
-done_absorbs t o p h a = record {
-  some = (let n = absorbs_parts t o p a in omega arith);
-  marked = (let n = absorbs_got is_end t o p a in let m = h.marked in omega arith);
-}
+live_absorbs : (t : Theft) (o p : Owner) → IsLive o → Absorbs t o p → IsLive p
+live_absorbs t o p live a = let n = absorbs_parts t o p a in omega arith
+
+-- an end mark stays
+marked_absorbs : (t : Theft) (o p : Owner) → HasMark o → Absorbs t o p → HasMark p
+marked_absorbs t o p marked a = let n = absorbs_got is_end t o p a in omega arith
 
 -- two numbers are equal or not
 same_or_other : (a b : ℕ) → (a ≡ b) ⊎ (a ≢ b)
@@ -122,14 +123,15 @@ lead-last owners worker n workers all done t o is h long wide at =
 
 -- the owners may still take back these thefts of a worker
 pub record IsLeft (worker : ℕ) (all : List Theft) (old : List Owner) (rest : List Theft) (now : List Owner) : Type 0 where
-  pub done : All IsDone now
+  pub live : All IsLive now
+  pub marked : All HasMark old → All HasMark now
   pub lead : LeadOn (map deque_of now) worker rest
   pub wide : length now ≡ length old
   pub taking : Taking (λ d. ways_of (length old) d worker (length rest)) (λ d. ways_of (length old) d worker (length all)) (λ weight. sum_by (got_by weight) rest) (λ weight. sum_by (got_by weight) all) old now
 
 -- nothing is taken back yet
-pub left_starts : (worker : ℕ) (all : List Theft) (old : List Owner) → All IsDone old → LeadOn (map deque_of old) worker all → IsLeft worker all old all old
-left_starts worker all old done lead = record { done = done; lead = lead; wide = refl; taking = taking_starts (λ d. ways_of (length old) d worker (length all)) (λ weight. sum_by (got_by weight) all) old }
+pub left_starts : (worker : ℕ) (all : List Theft) (old : List Owner) → All IsLive old → LeadOn (map deque_of old) worker all → IsLeft worker all old all old
+left_starts worker all old live lead = record { live = live; marked = λ marks. marks; lead = lead; wide = refl; taking = taking_starts (λ d. ways_of (length old) d worker (length all)) (λ weight. sum_by (got_by weight) all) old }
 
 -- all is taken back
 pub left_ends : (worker : ℕ) (all rest : List Theft) (old new : List Owner) → rest ≡ [] → IsLeft worker all old rest new
@@ -148,7 +150,7 @@ pub left_step : (worker n workers : ℕ) (all : List Theft) (old : List Owner) (
 left_step worker n workers all old rest now done t o p is long wide at a h =
     let place : ℕ = (worker + 1 + n) % workers in
     let found = lead-last now worker n workers rest done t o is h.lead long (wide ∙ sym h.wide) at in
-    let ready : IsDone o = subst IsDone (sym at) (All-get_or IsDone now place o found.0 h.done) in
+    let of_now : (P : Owner → Type 0) → All P now → P o = λ P all. subst P (sym at) (All-get_or P now place o found.0 all) in
     let same : map deque_of (set now place p) ≡ map deque_of now = map-set_same deque_of now place p o (a.deque ∙ ap deque_of at) in
     let count : length rest ≡ suc n = ap length is ∙ length-append done (t ∷ []) ∙ omega arith in
     let before : Taking (λ d. ways_of (length old) d worker (suc n)) (λ d. ways_of (length old) d worker (length all)) (λ weight. sum_by (got_by weight) (done ++ t ∷ [])) (λ weight. sum_by (got_by weight) all) old now =
@@ -156,7 +158,8 @@ left_step worker n workers all old rest now done t o p is long wide at a h =
     (subst (λ (l : List Theft). Taking (λ d. ways_of (length old) d worker (length rest)) (λ d. ways_of (length old) d worker (length all)) (λ weight. sum_by (got_by weight) l) (λ weight. sum_by (got_by weight) all) old now) is h.taking) in
     let after = taking_step worker n place (λ d. ways_of (length old) d worker (length all)) (λ weight. sum_by (got_by weight) all) old now done t o p found.0 at (ap (λ k. (worker + 1 + n) % k) (sym wide)) a before in
     record {
-      done = All-set IsDone now place p (done_absorbs t o p ready a) h.done;
+      live = All-set IsLive now place p (live_absorbs t o p (of_now IsLive h.live) a) h.live;
+      marked = λ marks. (let all = h.marked marks in All-set HasMark now place p (marked_absorbs t o p (of_now HasMark all) a) all);
       lead = subst (λ (l : List DequeId). LeadOn l worker done) (sym same) (lead-front (map deque_of now) worker rest done t is h.lead);
       wide = length-set now place p ∙ h.wide;
       taking = subst (λ (k : ℕ). Taking (λ d. ways_of (length old) d worker k) (λ d. ways_of (length old) d worker (length all)) (λ weight. sum_by (got_by weight) done) (λ weight. sum_by (got_by weight) all) old (set now place p)) long after;

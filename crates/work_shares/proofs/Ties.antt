@@ -13,7 +13,7 @@ use Rattle.work_shares.specs.Entries.{entries_of}
 use Rattle.work_shares.specs.Seats.{count_of}
 use Rattle.work_shares.specs.Rule.{all_parts}
 use Rattle.work_shares.specs.Places.{Place}
-use Rattle.work_shares.specs.Owners.{Owner, deque_of, parts_of, LeadAllOn, IsDone, TookBack}
+use Rattle.work_shares.specs.Owners.{Owner, deque_of, parts_of, LeadAllOn, IsLive, HasMark, TookBack}
 use Rattle.work_shares.specs.Shares.{place_of, is_ended, AreDeal}
 use Rattle.work_shares.specs.Apart.{own_of, thefts_of}
 use Rattle.work_shares.proofs.AllBack.{lengths_of}
@@ -54,16 +54,21 @@ module _ {L : Type 0} where
       let wide : length (map deque_of (map own_of shares)) ≡ length (map place_of shares) = ap length (sym (deques_same shares)) ∙ length-map (map place_of shares) (λ (q : Place). q.deque) in
       ap (λ n. slice_get (map deque_of (map own_of shares)) ((worker + 1 + i) % n)) wide ∙ ap (λ l. slice_get l ((worker + 1 + i) % length (map place_of shares))) (sym (deques_same shares)) ∙ there
 
-  -- an ended share's owner may take back
-  done_share : (s : Share L) → IsTrue (is_ended s) → IsDone (own_of s)
-  done_share s ended = record {
-    some = (let h = s.seated.stands in let p = h.parts in let f = h.few in omega arith);
-    marked = (let m = s.seated.stands.marked in m.over (m.ended ended));
-  }
+  -- a share's owner may take back
+  live_share : (s : Share L) → IsLive (own_of s)
+  live_share s = let h = s.seated.stands in let p = h.parts in let f = h.few in omega arith
 
   -- all owners may take back
-  pub all_done : (shares : List (Share L)) → All (λ s. IsTrue (is_ended s)) shares → All IsDone (map own_of shares)
-  all_done shares ended = All-map IsDone own_of shares (All-weaker (λ (s : Share L). IsTrue (is_ended s)) (λ s. IsDone (own_of s)) done_share shares ended)
+  pub all_live : (shares : List (Share L)) → All IsLive (map own_of shares)
+  all_live shares = All-map IsLive own_of shares (λ k s lt. live_share (get_or shares k s))
+
+  -- an ended share's owner has an end mark
+  marked_share : (s : Share L) → IsTrue (is_ended s) → HasMark (own_of s)
+  marked_share s ended = let m = s.seated.stands.marked in m.over (m.ended ended)
+
+  -- where all shares have ended, all owners have end marks
+  pub all_marked : (shares : List (Share L)) → All (λ s. IsTrue (is_ended s)) shares → All HasMark (map own_of shares)
+  all_marked shares ended = All-map HasMark own_of shares (All-weaker (λ (s : Share L). IsTrue (is_ended s)) (λ s. HasMark (own_of s)) marked_share shares ended)
 
   -- how many thefts a share has, and how many parts
   thefts_count : (s : Share L) → length s.seat.thefts.items + 1 ≡ s.seat.workers

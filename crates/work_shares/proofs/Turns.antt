@@ -10,7 +10,7 @@ use Rattle.work_shares.specs.declared.entry.View.{View}
 use Rattle.work_shares.specs.declared.entry.Entry.{Entry}
 use Rattle.work_shares.specs.declared.entry.Entry.TheVariants.{Work, End}
 use Rattle.work_shares.specs.Entries.{view, ends, is_end}
-use Rattle.work_shares.specs.Rule.{all_parts, Fits, IsRuled, Pushed, Took, GotAll}
+use Rattle.work_shares.specs.Rule.{all_parts, Fits, IsRuled, Pushed, Took, Learnt}
 use Rattle.work_shares.proofs.Sums.{total-set, member_le, members_le, others_le, only_one}
 use Rattle.work_shares.proofs.Fronts.{got_each}
 
@@ -163,11 +163,14 @@ merges port v other w live items views h at two at' =
           (at_set vs other j z u e);
     }
 
--- a view with every part and an end mark has got each block that was pushed
-pub learns : (port : ℕ) (v : View) → v.parts ≡ all_parts → Learns IsRuled port v (λ items. GotAll v items)
-learns port v whole items views h at numbers workers is some_end f zero_of =
+-- a view with every part has got what was taken: no entry twice, and each block where it has an end mark
+pub learns : (port : ℕ) (v : View) → v.parts ≡ all_parts → Learns IsRuled port v (λ items. Learnt v items)
+learns port v whole items views h at =
     let mine = (h.fits port v at).knows (omega arith) in
+    let cut : v.pushed ≡ h.taken ++ items = mine ∙ h.cut in
     let same : (k : Entry → ℕ) → sum_by k v.got ≡ sum_by k h.taken = λ k.
     sym (only_one (got_of k) parts_of views port v at (h.parts ∙ sym whole) (λ j u e none. ap (sum_by k) ((h.fits j u e).spent none))) ∙ h.once k in
-    let e = same is_end in
-    same f ∙ got_each h.taken items numbers workers f (sym h.cut ∙ sym mine ∙ is) (omega arith) zero_of
+    record {
+      apart = λ weight. omega (arith, same weight, ap (sum_by weight) cut, sum_by-append weight h.taken items);
+      all = λ numbers workers is some_end weight none. (let e = same is_end in same weight ∙ got_each h.taken items numbers workers weight (sym cut ∙ is) (omega arith) none);
+    }

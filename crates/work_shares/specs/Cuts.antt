@@ -1,5 +1,5 @@
 -- How a total of positions is cut into blocks: as numbers, first position and count of each block.
-use Rattle.std.specs.Prelude.{ℕ, ◌-◌, ◌*◌, ◌%◌, ◌==◌, List, min, map, filter}
+use Rattle.std.specs.Prelude.{ℕ, ◌-◌, ◌*◌, ◌%◌, ◌==◌, ◌++◌, List, IsPermutation, min, map, filter}
 use Rattle.std.specs.List.{range_with_len}
 use Rattle.std.specs.Int.{div_ceil}
 
@@ -14,6 +14,10 @@ block_at total size number = (number * size, min size (total - number * size))
 -- the blocks of a deal, in rising order
 unfoldable pub dealt : ℕ → ℕ → List (ℕ × ℕ)
 dealt total size = map (block_at total size) (range_with_len 0 (block_count total size))
+
+-- some of the dealt blocks, none more than once: with those that are left they are the dealt blocks
+abbrev pub AreApart : ℕ → ℕ → List (ℕ × ℕ) → Type 0
+AreApart total size blocks = (left : List (ℕ × ℕ)) × IsPermutation (dealt total size) (blocks ++ left)
 
 -- the positions of a block, in rising order
 abbrev pub positions_of : ℕ × ℕ → List ℕ

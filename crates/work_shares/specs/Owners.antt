@@ -57,10 +57,13 @@ LeadOn deques worker thefts = (i : ℕ) (d : DequeId) → slice_get (map deque_i
 abbrev pub LeadAllOn : List DequeId → List (Vec Theft Global) → Type 0
 LeadAllOn deques thefts = (worker : ℕ) (own : Vec Theft Global) → slice_get thefts worker ≡ Some own → LeadOn deques worker own.items
 
--- the owner may take parts back, and has got an end mark
-pub record IsDone (owner : Owner) : Type 0 where
-  pub some : 0 < parts_of owner
-  pub marked : 0 < ends (worker_view owner).got
+-- the owner has a part, so it may take others back
+abbrev pub IsLive : Owner → Type 0
+IsLive owner = 0 < parts_of owner
+
+-- the owner has got an end mark
+abbrev pub HasMark : Owner → Type 0
+HasMark owner = 0 < ends (worker_view owner).got
 
 -- the owners took back so many parts of each deque, and what these got, by each weight
 pub record TookBack (back : ℕ → ℕ) (taken : (Entry → ℕ) → ℕ) (old new : List Owner) : Type 0 where

@@ -34,7 +34,16 @@ abbrev pub Took : View → List Entry → View → Type 0
 Took v entries w = (w ≡ view v.parts v.pushed (v.got ++ entries)) × ((weight : Entry → ℕ) → sum_by weight w.got ≤ sum_by weight v.pushed)
     × ((before : List Entry) × (after : List Entry) × (v.pushed ≡ before ++ (entries ++ after)))
 
+-- each entry was got at most as often as it was pushed
+abbrev pub GotApart : View → Type 0
+GotApart v = (weight : Entry → ℕ) → sum_by weight v.got ≤ sum_by weight v.pushed
+
 -- where an end mark was got, each entry before the end marks was got, once
-abbrev pub GotAll : View → List Entry → Type 0
-GotAll v items = (numbers : List ℕ) (workers : ℕ) → v.pushed ≡ map Work numbers ++ replicate workers End → 0 < ends v.got
+abbrev pub GotAll : View → Type 0
+GotAll v = (numbers : List ℕ) (workers : ℕ) → v.pushed ≡ map Work numbers ++ replicate workers End → 0 < ends v.got
     → (weight : Entry → ℕ) → weight End ≡ 0 → sum_by weight v.got ≡ sum_by (λ number. weight (Work number)) numbers
+
+-- what a view with every part learns, whatever the deque still holds
+pub record Learnt (v : View) (items : List Entry) : Type 0 where
+  pub apart : GotApart v
+  pub all : GotAll v

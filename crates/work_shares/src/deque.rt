@@ -2,7 +2,7 @@
 ghost use Rattle.std.specs.Prelude.{◌≡◌, ◌<◌, ◌≤◌, ◌+◌, ◌-◌, [], ◌∷◌, ◌++◌, IfOk, IfSome, IfNone};
 ghost use Rattle.crossbeam_deque.specs.Handles.{view as pass_view, IsPassOf, worker_deque, stealer_deque, stealer_flavor, worker_view, worker_flavor, worker_capacity, worker_index, SameWorker};
 ghost use Rattle.work_shares.specs.Entries.{view, ends};
-ghost use Rattle.work_shares.specs.Rule.{Took, GotAll, all_parts};
+ghost use Rattle.work_shares.specs.Rule.{Took, Learnt, all_parts};
 
 use crate::entry::{Entry, View};
 use crossbeam_deque::protocol::{Join, Lesson, Outcome, Protocol, Split};
@@ -73,9 +73,9 @@ impl Join<View> for OnePart {
 struct Whole;
 
 impl Lesson<Entry, View> for Whole {
-    ghost use Rattle.work_shares.specs.Rule.{GotAll};
+    ghost use Rattle.work_shares.specs.Rule.{Learnt};
 
-    ghost fact = { GotAll };
+    ghost fact = { Learnt };
 }
 
 /// The end of a deque that its owner pushes to and takes from.
@@ -154,11 +154,12 @@ pub fn take_back(owner: &mut Owner, pass: Pass<Entry, View>)
     owner.absorb::<OnePart>(pass);
 }
 
-/// Once every part is back and an end mark was got, each block that was pushed was got once.
+/// Once every part is back, each entry was got at most as often as it was pushed; and where an end mark was got, each block
+/// was got once.
 pub fn learn(owner: &mut Owner)
     requires { (worker_view owner.old).parts ≡ all_parts }
     ensures view { worker_view owner.new ≡ worker_view owner.old }
-    ensures all { GotAll (worker_view owner.old) [] }
+    ensures learnt { Learnt (worker_view owner.old) [] }
     ensures same { SameWorker owner.old owner.new }
 {
     owner.len_as::<Whole>();

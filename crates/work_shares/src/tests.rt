@@ -1,5 +1,5 @@
-ghost use Rattle.std.specs.Prelude.{◌≡◌, ◌<◌, ◌≤◌, ◌/◌, ◌^◌, All, IsTrue, IfOk, map, true, length, vec_len};
-ghost use Rattle.work_shares.specs.Shares.{place_of, is_ended, blocks_of, AreDeal};
+ghost use Rattle.std.specs.Prelude.{◌≡◌, ◌<◌, ◌≤◌, ◌/◌, ◌^◌, IfOk, map, length, vec_len};
+ghost use Rattle.work_shares.specs.Shares.{place_of, blocks_of, AreDeal};
 
 use crate::{Block, Settled, Share, deal, deals_cover, settle};
 use std::alloc::{AllocError, Global};
@@ -10,8 +10,7 @@ use std::thread::Threads;
 
 /// Takes blocks until none is given, and adds up their positions.
 fn finish(share: &mut Share<u64>)
-    ensures place { place_of share.new ≡ place_of share.old }
-    ensures ended { is_ended share.new ≡ true }
+    ensures { place_of share.new ≡ place_of share.old }
 {
     while let Some(block) = share.next() {
         share.load = share.load.wrapping_add(u64::from(block.count));
@@ -20,8 +19,7 @@ fn finish(share: &mut Share<u64>)
 
 /// The same with each share, one after the other.
 fn finish_all(shares: &mut Vec<Share<u64>>)
-    ensures places { map place_of shares.new.items ≡ map place_of shares.old.items }
-    ensures ended { All (λ share. IsTrue (is_ended share)) shares.new.items }
+    ensures { map place_of shares.new.items ≡ map place_of shares.old.items }
 {
     for i in 0..shares.len() {
         finish(&mut shares[i]);
@@ -31,8 +29,7 @@ fn finish_all(shares: &mut Vec<Share<u64>>)
 /// The same with each share in a thread of its own.
 fn finish_in_threads<R: Threads + Sync>(rt: &R, shares: &mut Vec<Share<u64>>)
     requires { 0 < vec_len shares.old }
-    ensures places { map place_of shares.new.items ≡ map place_of shares.old.items }
-    ensures ended { All (λ share. IsTrue (is_ended share)) shares.new.items }
+    ensures { map place_of shares.new.items ≡ map place_of shares.old.items }
 {
     let workers = shares.len();
     thread::for_each_mut(
@@ -43,6 +40,14 @@ fn finish_in_threads<R: Threads + Sync>(rt: &R, shares: &mut Vec<Share<u64>>)
     );
 }
 
+/// Calls `next` of one share.
+fn call(shares: &mut Vec<Share<u64>>, at: usize) -> Option<Block>
+    requires { at < vec_len shares.old }
+    ensures { map place_of shares.new.items ≡ map place_of shares.old.items }
+{
+    shares[at].next()
+}
+
 /// Calls `next` of shares that a row of numbers picks.
 fn call_at_random(shares: &mut Vec<Share<u64>>, calls: u64, numbers: &mut u64)
     requires { 0 < vec_len shares.old }
@@ -50,7 +55,7 @@ fn call_at_random(shares: &mut Vec<Share<u64>>, calls: u64, numbers: &mut u64)
 {
     for _ in 0..calls {
         let i = drawn(numbers, shares.len() as u64) as usize;
-        shares[i].next();
+        call(shares, i);
     }
 }
 
@@ -202,6 +207,21 @@ fn blocks_and_loads_are_shown(rt: HostRuntime) -> Result<(), Fail> {
     assert_eq!(rt; settled.blocks(1), [].as_slice());
     assert_eq!(rt; settled.loads().as_slice(), [130, 0].as_slice());
     deals_cover(130, 64);
+    Ok(())
+}
+
+#[test]
+fn a_deal_under_way_shows_what_was_given(rt: HostRuntime) -> Result<(), Fail> {
+    let mut shares = dealt(rt.alloc(), 130, 64, 2)?;
+    let second = Block {
+        first: 64,
+        count: 64,
+    };
+    assert_eq!(rt; call(&mut shares, 1), Some(second));
+    let settled = settle(shares);
+    assert_eq!(rt; settled.blocks(0), [].as_slice());
+    assert_eq!(rt; settled.blocks(1), [second].as_slice());
+    assert_eq!(rt; settled.loads().as_slice(), [0, 0].as_slice());
     Ok(())
 }
 

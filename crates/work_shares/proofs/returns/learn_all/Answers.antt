@@ -1,10 +1,10 @@
-use Rattle.std.proofs.Common.{rules, ◌≡◌, ◌<◌, ℕ, List, [], map, get_or, length, sym, ap, ◌∙◌, subst, arith}
+use Rattle.std.proofs.Common.{rules, ◌≡◌, ◌<◌, ◌≤◌, ℕ, List, [], map, get_or, length, sym, ap, ◌∙◌, subst, arith}
 use Rattle.std.proofs.lemmas.List.{get_or-map, get_or_default, length-map}
 use Rattle.std.proofs.Math.Seq.{map-set_same}
 use borrow.Author.Count.{below_more}
 use Rattle.crossbeam_deque.specs.Handles.{worker_view}
 use Rattle.work_shares.specs.declared.entry.View.{View}
-use Rattle.work_shares.specs.Rule.{GotAll}
+use Rattle.work_shares.specs.Rule.{Learnt}
 use Rattle.work_shares.specs.Owners.{Owner}
 use Rattle.work_shares.proofs.returns.learn_all.Goals as goal
 
@@ -31,8 +31,11 @@ loop-i-preserved c =
     let o = c.index_mut.result.now in
     let lt : c.loop-i.i < length owners = search rules in (
       map-set_same view_of owners c.loop-i.i c.learn.new.owner o (c.learn.ensures.view ∙ ap view_of c.index_mut.ensures.value) ∙ c.loop-i.invariant.0,
-      below_more (λ k. (d : Owner) → GotAll (view_of (get_or c.args.owners.now.items k d)) []) c.loop-i.i c.loop-i.invariant.1 (λ d.
+      below_more (λ k. (d : Owner) → Learnt (view_of (get_or c.args.owners.now.items k d)) []) c.loop-i.i c.loop-i.invariant.1 (λ d.
           let seen : view_of o ≡ view_of (get_or c.args.owners.now.items c.loop-i.i d) =
           ap view_of (c.index_mut.ensures.value ∙ get_or_default owners c.loop-i.i o d lt) ∙ (same_view owners c.args.owners.now.items c.loop-i.i d c.loop-i.invariant.0 lt).1 in
-          subst (λ (v : View). GotAll v []) seen c.learn.ensures.all),
+          subst (λ (v : View). Learnt v []) seen c.learn.ensures.learnt),
     )
+
+pub returns-clause-learnt : goal.returns-clause-learnt
+returns-clause-learnt c k d lt = c.loop-i.invariant.1 k (let all : length c.args.owners.now.items ≤ c.loop-i.i = search rules in omega arith) d

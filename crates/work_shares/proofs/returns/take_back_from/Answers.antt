@@ -2,7 +2,7 @@ use Rattle.std.proofs.Common.{rules, ◌≡◌, length, sym, ◌∙◌, subst}
 use Rattle.std.proofs.lemmas.List.{nil_from_length}
 use Rattle.std.proofs.lemmas.List.Elements.{All-get_or}
 use Rattle.crossbeam_deque.specs.Handles.{IsPassOf}
-use Rattle.work_shares.specs.Owners.{IsDone}
+use Rattle.work_shares.specs.Owners.{IsLive}
 use Rattle.work_shares.proofs.TakingBack.{Absorbs, left_step, left_ends, lead-last}
 use Rattle.work_shares.proofs.returns.take_back_from.Goals as goal
 
@@ -14,8 +14,8 @@ take_back-requires c =
     let long : c.len.result ≡ length c.pop.new.self.items = search rules in
     let wide : c.len-workers.result ≡ length c.args.owners.now.items = search rules in
     let found = lead-last c.loop-theft.owners.items c.args.worker c.len.result c.len-workers.result c.loop-theft.thefts.items c.pop.new.self.items t o c.in-Some.ensures.items i.lead long (wide ∙ sym i.wide) c.index_mut.ensures.value in
-    let ready : IsDone o = subst IsDone (sym c.index_mut.ensures.value) (All-get_or IsDone c.loop-theft.owners.items _ o found.0 i.done) in
-    (subst (λ d. IsPassOf d t.pass) (sym found.1) t.of, ready.some)
+    let live : IsLive o = subst IsLive (sym c.index_mut.ensures.value) (All-get_or IsLive c.loop-theft.owners.items _ o found.0 i.live) in
+    (subst (λ d. IsPassOf d t.pass) (sym found.1) t.of, live)
 
 pub loop-theft-preserved : goal.loop-theft-preserved
 loop-theft-preserved c =

@@ -1,16 +1,18 @@
-use Rattle.std.proofs.Common.{rules, ◌≡◌, List, [], ◌∷◌, Vec, Global, Some, IfSome, All, IsPermutation, map, flat_map, length, vec_len, slice_get, refl, sym, ap, ◌∙◌, subst}
+use Rattle.std.proofs.Common.{rules, ◌≡◌, ℕ, List, [], ◌∷◌, Vec, Global, Some, IfSome, All, IsPermutation, map, flat_map, length, vec_len, slice_get, refl, sym, ap, ◌∙◌, subst}
 use Rattle.work_shares.specs.declared.block.Block.{Block}
 use Rattle.work_shares.specs.declared.theft.Theft.{Theft}
 use Rattle.work_shares.specs.declared.share.Share.{Share}
-use Rattle.work_shares.specs.Cuts.{dealt}
+use Rattle.work_shares.specs.Cuts.{dealt, AreApart}
 use Rattle.work_shares.specs.Blocks.{extents_of}
-use Rattle.work_shares.specs.Owners.{Owner, deque_of, LeadAllOn, IsDone, TookBack}
+use Rattle.work_shares.specs.Owners.{Owner, deque_of, LeadAllOn, IsLive, HasMark, TookBack}
 use Rattle.work_shares.specs.Ways.{ways_from}
-use Rattle.work_shares.specs.Shares.{noted_by}
+use Rattle.crossbeam_deque.specs.Handles.{worker_view}
+use Rattle.work_shares.specs.Rule.{Learnt}
+use Rattle.work_shares.specs.Shares.{noted_by, AreDeal}
 use Rattle.work_shares.specs.Apart.{own_of, thefts_of, notes_of}
 use Rattle.work_shares.proofs.AllBack.{lengths_of, all_got}
-use Rattle.work_shares.proofs.Ties.{place_at, all_lead, all_done, owners_whole}
-use Rattle.work_shares.proofs.Settles.{once_dealt}
+use Rattle.work_shares.proofs.Ties.{place_at, all_lead, all_live, all_marked, owners_whole}
+use Rattle.work_shares.proofs.Settles.{Settling, apart_dealt, once_dealt}
 use Rattle.work_shares.proofs.settling.settle.Goals as goal
 
 -- what holds of each share of a deal holds of the first one
@@ -34,37 +36,51 @@ took_from owners was new thefts given a b t =
 
 pub parted-owners-requires-clause-first : goal.parted-owners-requires-clause-first
 parted-owners-requires-clause-first g c =
-    let d = c.requires.deal in
+    let d = c.requires in
     first_of (λ (s : Share g.row.L.Denot). s.seat.worker ≡ 0) c.args.shares.items (λ s e. (place_at d.0 d.1.0 c.args.shares.items d.1.1 0 s e).3)
 
 pub parted-owners-requires-clause-room : goal.parted-owners-requires-clause-room
 parted-owners-requires-clause-room g c =
-    let d = c.requires.deal in
+    let d = c.requires in
     let len : length c.args.shares.items ≡ vec_len c.args.shares = search rules in
     first_of (λ (s : Share g.row.L.Denot). s.seat.workers ≡ vec_len c.args.shares) c.args.shares.items (λ s e. (place_at d.0 d.1.0 c.args.shares.items d.1.1 0 s e).2 ∙ len)
 
 pub take_back_all-requires-clause-ways : goal.take_back_all-requires-clause-ways
 take_back_all-requires-clause-ways g c =
-    let d = c.requires.deal in
+    let d = c.requires in
     let e = c.parted-owners.ensures in
     let P : List Owner → Type 0 = λ l. LeadAllOn (map deque_of l) c.parted-owners.result.thefts.items in
     let Q : List (Vec Theft Global) → Type 0 = λ l. LeadAllOn (map deque_of (map own_of c.args.shares.items)) l in
     subst P (sym e.owners) (subst Q (sym e.thefts) (all_lead d.0 d.1.0 c.args.shares.items d.1.1))
 
-pub take_back_all-requires-clause-done : goal.take_back_all-requires-clause-done
-take_back_all-requires-clause-done g c = subst (All IsDone) (sym c.parted-owners.ensures.owners) (all_done c.args.shares.items c.requires.ended)
+pub take_back_all-requires-clause-live : goal.take_back_all-requires-clause-live
+take_back_all-requires-clause-live g c = subst (All IsLive) (sym c.parted-owners.ensures.owners) (all_live c.args.shares.items)
 
 pub learn_all-requires : goal.learn_all-requires
 learn_all-requires g c =
-    let d = c.requires.deal in
+    let d = c.requires in
     owners_whole d.0 d.1.0 c.args.shares.items _ c.take_back_all.new.owners.items d.1.1
     (took_from (map own_of c.args.shares.items) c.parted-owners.result.owners.items c.take_back_all.new.owners.items (map thefts_of c.args.shares.items) c.parted-owners.result.thefts.items c.parted-owners.ensures.owners c.parted-owners.ensures.thefts c.take_back_all.ensures.took)
 
 pub returns-clause-blocks : goal.returns-clause-blocks
 returns-clause-blocks g c = blocks_are c.args.shares.items c.parted-owners.result.notes.items c.parted-owners.ensures.notes
 
+-- what the owners learnt, who took back all thefts of a deal
+settling : {L : Type 0} (total block : ℕ) (shares : List (Share L)) (owners new : List Owner) (thefts : List (Vec Theft Global)) → owners ≡ map own_of shares → thefts ≡ map thefts_of shares → AreDeal total block shares
+    → TookBack (λ d. ways_from (length owners) d 0 (lengths_of thefts)) (λ weight. all_got weight thefts) owners new → All (λ o. Learnt (worker_view o) []) new → Settling total block shares new
+settling total block shares owners new thefts own stolen deal took learnt =
+    let t = took_from (map own_of shares) owners new (map thefts_of shares) thefts own stolen took in
+    record { deal = deal; pushed = t.pushed; got = t.got; learnt = learnt }
+
+pub returns-clause-apart : goal.returns-clause-apart
+returns-clause-apart g c total block deal =
+    let e = c.parted-owners.ensures in
+    let s = settling total block c.args.shares.items _ c.take_back_all.new.owners.items _ e.owners e.thefts deal c.take_back_all.ensures.took c.learn_all.ensures.learnt in
+    subst (λ (l : List (List Block)). AreApart total block (flat_map extents_of l)) (sym (blocks_are c.args.shares.items c.parted-owners.result.notes.items e.notes)) (apart_dealt total block c.args.shares.items c.take_back_all.new.owners.items s)
+
 pub returns-clause-once : goal.returns-clause-once
-returns-clause-once g c total block deal =
-    let took = took_from (map own_of c.args.shares.items) c.parted-owners.result.owners.items c.take_back_all.new.owners.items (map thefts_of c.args.shares.items) c.parted-owners.result.thefts.items c.parted-owners.ensures.owners c.parted-owners.ensures.thefts c.take_back_all.ensures.took in
-    let once = once_dealt total block c.args.shares.items _ c.take_back_all.new.owners.items deal took c.take_back_all.ensures.done c.learn_all.ensures.all in
-    subst (λ (l : List (List Block)). IsPermutation (dealt total block) (flat_map extents_of l)) (sym (blocks_are c.args.shares.items c.parted-owners.result.notes.items c.parted-owners.ensures.notes)) once
+returns-clause-once g c total block deal ended =
+    let e = c.parted-owners.ensures in
+    let s = settling total block c.args.shares.items _ c.take_back_all.new.owners.items _ e.owners e.thefts deal c.take_back_all.ensures.took c.learn_all.ensures.learnt in
+    let marked = c.take_back_all.ensures.marked (subst (All HasMark) (sym e.owners) (all_marked c.args.shares.items ended)) in
+    subst (λ (l : List (List Block)). IsPermutation (dealt total block) (flat_map extents_of l)) (sym (blocks_are c.args.shares.items c.parted-owners.result.notes.items e.notes)) (once_dealt total block c.args.shares.items c.take_back_all.new.owners.items s marked)

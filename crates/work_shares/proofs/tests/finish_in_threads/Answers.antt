@@ -5,8 +5,8 @@ use Rattle.work_shares.specs.Shares.{place_of}
 use Rattle.work_shares.proofs.Kept.{map-same}
 use Rattle.work_shares.proofs.tests.finish_in_threads.Goals as goal
 
-pub returns-clause-places : goal.returns-clause-places
-returns-clause-places g c =
+pub returns : goal.returns
+returns g c =
     let was : List (Share ℕ) = c.args.shares.now.items in
     let now : List (Share ℕ) = c.for_each_mut.new.s in
     let long : length now ≡ length was = search rules in
