@@ -1,5 +1,5 @@
 -- Seats of which nothing was taken.
-use Rattle.std.proofs.Common.{◌≡◌, ℕ, zero, suc, ◌+◌, ◌-◌, ◌%◌, ◌<◌, ◌≤◌, false, List, Vec, Global, [], ◌∷◌, All, map, vec_len, vec_capacity, refl, ap, arith}
+use Rattle.std.proofs.Common.{◌≡◌, ℕ, zero, suc, ◌+◌, ◌<◌, ◌≤◌, false, List, Vec, Global, [], ◌∷◌, All, map, vec_len, vec_capacity, refl, ap, ◌∙◌, arith}
 use Rattle.std.specs.List.{sum_by, range_with_len}
 use Rattle.std.proofs.lemmas.List.Sums.{sum_by-cons}
 use Rattle.crossbeam_deque.specs.Handles.{worker_view}
@@ -7,16 +7,14 @@ use Rattle.work_shares.specs.declared.block.Block.{Block}
 use Rattle.work_shares.specs.declared.block.Cut.{Cut}
 use Rattle.work_shares.specs.declared.theft.Theft.{Theft}
 use Rattle.work_shares.specs.declared.entry.Entry.{Entry}
-use Rattle.work_shares.specs.Cuts.{block_count, numbers_of}
+use Rattle.work_shares.specs.Cuts.{block_count}
 use Rattle.work_shares.specs.Blocks.{extents_of}
 use Rattle.work_shares.specs.Entries.{is_work, ends, weight_of, entries_of}
 use Rattle.work_shares.specs.Thefts.{pushed_into, got_by, left_into, entries_after}
 use Rattle.work_shares.specs.Seats.{seat_left, IsSeated}
 use Rattle.work_shares.specs.Owners.{Owner, IsReady}
 use Rattle.work_shares.specs.Lending.{IsUnused, AreGiven}
-use Rattle.work_shares.proofs.Counts.{sum_by-same, sum_by-mapped, sum_by-numbers_of}
-use Rattle.work_shares.proofs.Pushes.{sum_by-entries_of}
-use Rattle.work_shares.proofs.Rotated.{sum_by-rotated}
+use Rattle.work_shares.proofs.AllGiven.{sum_by-entries_all}
 
 -- nothing was stolen
 got_nothing : (weight : Entry → ℕ) (thefts : List Theft) → All IsUnused thefts → sum_by (got_by weight) thefts ≡ 0
@@ -37,27 +35,13 @@ left_all (t ∷ ts) unused =
     view_got : Theft → List Entry
     view_got t = t.pass.me.view.client.got
 
--- all deques together were given each block
+-- all deques together were given as many blocks as there are
 works_all : (count workers worker : ℕ) → worker < workers
     → sum_by is_work (entries_of count workers worker) + sum_by (λ entries. sum_by is_work entries) (entries_after count workers worker) ≡ count
-unfolding entries_after
-works_all count workers worker lt =
-    let f : ℕ → ℕ = λ d. sum_by is_work (entries_of count workers d) in
-    let one : ℕ → ℕ = λ number. 1 in
-    let g : ℕ → ℕ = λ d. sum_by one (numbers_of count workers d) in
-    let each : (d : ℕ) → f d ≡ g d = λ d. omega (arith, sum_by-entries_of is_work count workers d) in
-    let ones : sum_by one (range_with_len 0 count) ≡ count = count_ones 0 count in
-    omega (
-      arith,
-      sum_by-mapped (λ (entries : List Entry). sum_by is_work entries) (λ i. entries_of count workers ((worker + 1 + i) % workers)) (range_with_len 0 (workers - 1)),
-      sum_by-rotated f workers worker lt,
-      sum_by-same f g (range_with_len 0 workers) each,
-      sum_by-numbers_of one count workers (omega arith),
-    )
-  where
-    count_ones : (a n : ℕ) → sum_by (λ (number : ℕ). 1) (range_with_len a n) ≡ n
-    count_ones a zero = refl
-    count_ones a (suc n) = omega (arith, sum_by-cons (λ (number : ℕ). 1) a (range_with_len (a + 1) n), count_ones (a + 1) n)
+works_all count workers worker lt = sum_by-entries_all is_work count workers worker lt refl ∙ count_ones 0 count where
+  count_ones : (a n : ℕ) → sum_by (λ (number : ℕ). 1) (range_with_len a n) ≡ n
+  count_ones a zero = refl
+  count_ones a (suc n) = omega (arith, sum_by-cons (λ (number : ℕ). 1) a (range_with_len (a + 1) n), count_ones (a + 1) n)
 
 -- the seat at the start
 pub seated_fresh : (cut : Cut) (workers worker : ℕ) (own : Owner) (thefts : Vec Theft Global) (noted : Vec Block Global) → worker < workers → workers ≤ 8
@@ -75,6 +59,7 @@ seated_fresh cut workers worker own thefts noted lt few ready given empty none r
         parts = ready.parts;
         own = ready.pushed;
         others = given.given;
+        apart = λ weight. omega (arith, ap (sum_by weight) ready.untaken.got);
         marked = record { going = λ _. no_ends; over = λ e. absurd cc; ended = λ e. absurd cc };
       };
       noted = λ weight. (

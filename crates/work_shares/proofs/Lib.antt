@@ -21,6 +21,8 @@ pub mod Pushing
 pub mod LendingOne
 pub mod LendingAll
 pub mod Rotated
+pub mod AllGiven
+pub mod Noted
 pub mod Fresh
 pub mod Handing
 pub mod Ready

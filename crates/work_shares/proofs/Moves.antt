@@ -13,6 +13,7 @@ use Rattle.work_shares.specs.declared.entry.View.{View}
 use Rattle.work_shares.specs.Cuts.{block_count, block_at, dealt}
 use Rattle.work_shares.specs.Blocks.{extent_of, extents_of}
 use Rattle.work_shares.specs.Entries.{ends, blocks_left, weight_of}
+use Rattle.work_shares.specs.Rule.{GotApart}
 use Rattle.work_shares.specs.Thefts.{Steals, pushed_into, got_by, left_into, entries_after}
 use Rattle.work_shares.specs.Places.{Place}
 use Rattle.work_shares.specs.Seats.{own_view, count_of, place_of_seat, seat_left, seat_got, IsMarked, IsStanding, IsSeated, TakesOwn, Takes}
@@ -32,6 +33,7 @@ standing-own number s t h m =
       parts = (let a = h.parts in let b = m.gives.parts in omega arith);
       own = m.gives.pushed ∙ h.own ∙ rw (cut, workers, worker) refl;
       others = thefts ∙ h.others ∙ rw (cut, workers, worker) refl;
+      apart = m.gives.apart h.apart;
       marked = m.marked;
     }
 
@@ -79,6 +81,7 @@ standing-theft number t u h b rest =
       parts = (let a = h.parts in let c = ap (λ (v : View). v.parts) own in omega arith);
       own = ap (λ (v : View). v.pushed) own ∙ h.own ∙ rw (cut, workers, worker) refl;
       others = b.pushed ∙ h.others ∙ rw (cut, workers, worker) refl;
+      apart = subst GotApart (sym own) h.apart;
       marked = marked-theft t u h.marked own (ap (λ (x : Seat). x.over) rest) (ap (λ (x : Seat). x.ended) rest);
     } where
       marked-theft : (t u : Seat) → IsMarked t → own_view u ≡ own_view t → u.over ≡ t.over → u.ended ≡ t.ended → IsMarked u
@@ -140,6 +143,7 @@ seated-noted n s t blocks block h k is more longer capacity =
         parts = k.stands.parts;
         own = k.stands.own;
         others = k.stands.others;
+        apart = k.stands.apart;
         marked = record { going = k.stands.marked.going; over = k.stands.marked.over; ended = k.stands.marked.ended };
       };
       noted = λ weight. (
@@ -168,6 +172,7 @@ seated-ended s t h k =
         parts = k.stands.parts;
         own = k.stands.own;
         others = k.stands.others;
+        apart = k.stands.apart;
         marked = record { going = k.stands.marked.going; over = k.stands.marked.over; ended = λ _. k.over };
       };
       noted = λ weight. (

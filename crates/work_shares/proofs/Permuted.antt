@@ -52,10 +52,12 @@ part_of (p ∷ ps) qs le =
     let is : qs ≡ before ++ p ∷ after = f.1.1 in
     let less : (weight : ℕ × ℕ → ℕ) → sum_by weight ps ≤ sum_by weight (before ++ after) = λ weight.
     omega (arith, le weight, sum_by-cons weight p ps, ap (sum_by weight) is, sum_by-append weight before (p ∷ after), sum_by-cons weight p after, sum_by-append weight before after) in
-    let rest = part_of ps (before ++ after) less in
-    (rest.0, subst (λ (l : List (ℕ × ℕ)). IsPermutation l (p ∷ ps ++ rest.0)) (sym is)
-    (IsPermutation-trans (before ++ p ∷ after) (p ∷ (before ++ after)) (p ∷ ps ++ rest.0) (IsPermutation-middle before p after)
-    (IsPermutation-cons p (before ++ after) (ps ++ rest.0) rest.1)))
+    let rest = part_of ps (before ++ after) less in (
+      rest.0,
+      subst (λ (l : List (ℕ × ℕ)). IsPermutation l (p ∷ ps ++ rest.0)) (sym is)
+          (IsPermutation-trans (before ++ p ∷ after) (p ∷ (before ++ after)) (p ∷ ps ++ rest.0) (IsPermutation-middle before p after)
+          (IsPermutation-cons p (before ++ after) (ps ++ rest.0) rest.1)),
+    )
 
 -- where all sums are the same, nothing is left
 pub permuted : (ps qs : List (ℕ × ℕ)) → ((weight : ℕ × ℕ → ℕ) → sum_by weight ps ≡ sum_by weight qs) → IsPermutation ps qs

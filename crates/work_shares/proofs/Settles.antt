@@ -1,9 +1,8 @@
 -- The blocks of all workers are dealt ones, none more than once; and all of them, once all shares have ended.
-use Rattle.std.proofs.Common.{◌≡◌, ℕ, suc, ◌+◌, ◌*◌, ◌<◌, ◌≤◌, List, Vec, Global, [], ◌∷◌, Some, All, IsPermutation, map, flat_map, length, replicate, slice_get, refl, sym, ap, ◌∙◌, mul-zero, arith}
+use Rattle.std.proofs.Common.{◌≡◌, ℕ, suc, ◌+◌, ◌*◌, ◌<◌, ◌≤◌, List, Vec, Global, [], ◌∷◌, Some, All, IsPermutation, map, flat_map, length, slice_get, refl, sym, ap, ◌∙◌, arith}
 use Rattle.std.specs.List.{sum_by, range_with_len}
 use Rattle.std.proofs.lemmas.List.{length-map}
 use Rattle.std.proofs.lemmas.List.Sums.{sum_by-cons, sum_by-append}
-use Rattle.std.proofs.lemmas.List.Folds.{sum_by-replicate}
 use Rattle.crossbeam_deque.specs.Handles.{worker_view}
 use Rattle.work_shares.specs.declared.share.Share.{Share}
 use Rattle.work_shares.specs.declared.theft.Theft.{Theft}
@@ -19,6 +18,7 @@ use Rattle.work_shares.specs.Owners.{Owner, pushed_of, owner_got, HasMark}
 use Rattle.work_shares.specs.Shares.{place_of, noted_by, AreDeal}
 use Rattle.work_shares.specs.Apart.{own_of, thefts_of}
 use Rattle.work_shares.proofs.Counts.{sum_by-mapped, sum_by-numbers_of}
+use Rattle.work_shares.proofs.Pushes.{sum_by-entries_of}
 use Rattle.work_shares.proofs.Permuted.{part_of, permuted}
 use Rattle.work_shares.proofs.AllBack.{all_got}
 use Rattle.work_shares.proofs.Ties.{place_at}
@@ -27,19 +27,12 @@ use Rattle.work_shares.proofs.Ties.{place_at}
 abbrev blocks_weigh : (Entry → ℕ) → ℕ → ℕ → ℕ → ℕ
 blocks_weigh weight count workers worker = sum_by (λ number. weight (Work number)) (numbers_of count workers worker)
 
--- what was pushed weighs what the blocks do, where end marks weigh nothing
-pushed_weighs : (weight : Entry → ℕ) (count workers worker : ℕ) → weight End ≡ 0 → sum_by weight (entries_of count workers worker) ≡ blocks_weigh weight count workers worker
-unfolding entries_of
-pushed_weighs weight count workers worker none =
-    let marks : sum_by weight (replicate workers End) ≡ 0 = sum_by-replicate weight workers End ∙ ap (λ k. workers * k) none ∙ mul-zero workers in
-    omega (arith, sum_by-append weight (map Work (numbers_of count workers worker)) (replicate workers End), sum_by-mapped weight Work (numbers_of count workers worker))
-
 -- an owner has got no block of its deque twice, and each block where it has an end mark
 got_own : (weight : Entry → ℕ) (count workers worker : ℕ) (owner : Owner) → pushed_of owner ≡ entries_of count workers worker → Learnt (worker_view owner) [] → weight End ≡ 0
     → (owner_got weight owner ≤ blocks_weigh weight count workers worker) × (HasMark owner → owner_got weight owner ≡ blocks_weigh weight count workers worker)
 unfolding entries_of
 got_own weight count workers worker owner pushed learnt none = (
-  omega (arith, learnt.apart weight, ap (sum_by weight) pushed, pushed_weighs weight count workers worker none),
+  omega (arith, learnt.apart weight, ap (sum_by weight) pushed, sum_by-entries_of weight count workers worker, ap (λ k. workers * k) none),
   λ marked. learnt.all (numbers_of count workers worker) workers pushed marked weight none,
 )
 

@@ -4,6 +4,7 @@ use Rattle.work_shares.specs.declared.entry.View.{View}
 use Rattle.work_shares.specs.declared.entry.Entry.{Entry}
 use Rattle.work_shares.specs.declared.entry.Entry.TheVariants.{Work, End}
 use Rattle.work_shares.specs.Entries.{blocks_left}
+use Rattle.work_shares.specs.Rule.{GotApart}
 
 -- what the number given weighs, if there is one
 abbrev pub weighed : (Entry → ℕ) → Option ℕ → ℕ
@@ -22,3 +23,4 @@ pub record Gives (number : Option ℕ) (v w : View) : Type 0 where
   pub got : (weight : Entry → ℕ) → weight End ≡ 0 → sum_by weight w.got ≡ sum_by weight v.got + weighed weight number
   pub left : blocks_left w + given number ≡ blocks_left v
   pub known : IfSome number (λ n. Contains v.pushed (Work n))
+  pub apart : GotApart v → GotApart w

@@ -8,6 +8,7 @@ use Rattle.work_shares.specs.declared.seat.Seat.{Seat}
 use Rattle.work_shares.specs.Cuts.{block_count}
 use Rattle.work_shares.specs.Blocks.{extents_of}
 use Rattle.work_shares.specs.Entries.{ends, blocks_left, weight_of, entries_of}
+use Rattle.work_shares.specs.Rule.{GotApart}
 use Rattle.work_shares.specs.Gives.{Gives, weighed, given}
 use Rattle.work_shares.specs.Thefts.{deque_into, pushed_into, got_by, left_into, entries_after}
 use Rattle.work_shares.specs.Places.{Place}
@@ -65,6 +66,7 @@ pub record IsStanding (s : Seat) : Type 0 where
   pub parts : (own_view s).parts + s.workers ≡ 9
   pub own : (own_view s).pushed ≡ entries_of (count_of s) s.workers s.worker
   pub others : map pushed_into s.thefts.items ≡ entries_after (count_of s) s.workers s.worker
+  pub apart : GotApart (own_view s)
   pub marked : IsMarked s
 
 -- besides, what it got is what it noted, and there is room to note what it may still be given

@@ -1,7 +1,7 @@
 //! One worker's end of a deal.
 ghost use Rattle.std.specs.Prelude.{◌≡◌, ◌<◌, ◌++◌, ◌∷◌, [], ◌||◌, IfSome, IfNone, Contains, is_none};
-ghost use Rattle.work_shares.specs.Cuts.{dealt};
-ghost use Rattle.work_shares.specs.Blocks.{extent_of};
+ghost use Rattle.work_shares.specs.Cuts.{dealt, AreApart};
+ghost use Rattle.work_shares.specs.Blocks.{extent_of, extents_of};
 ghost use Rattle.work_shares.specs.Seats.{IsSeated};
 ghost use Rattle.work_shares.specs.Parts.{IsEmpty, HasRoom};
 
@@ -34,6 +34,7 @@ impl<L> Share<L> {
         ensures ended { is_ended self.new ≡ is_none result || is_ended self.old }
 
         ensures noted { IfSome result (λ block. noted_by self.new ≡ noted_by self.old ++ block ∷ []) }
+        ensures apart { AreApart (place_of self.old).total (place_of self.old).size (extents_of (noted_by self.new)) }
         ensures dealt { IfSome result (λ block. Contains (dealt (place_of self.old).total (place_of self.old).size) (extent_of block)) }
         ensures fewer { IfSome result (λ _. share_left self.new < share_left self.old) }
         ensures none { IfNone result (noted_by self.new ≡ noted_by self.old) }

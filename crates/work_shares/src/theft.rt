@@ -2,6 +2,7 @@
 ghost use Rattle.std.specs.Prelude.{◌≡◌, false};
 ghost use Rattle.crossbeam_deque.specs.Handles.{view as pass_view, IsPassOf, stealer_deque};
 ghost use Rattle.work_shares.specs.Entries.{ends};
+ghost use Rattle.work_shares.specs.Rule.{GotApart};
 
 use crate::deque::{Thief, steal};
 use crate::entry::{Entry, View};
@@ -16,6 +17,7 @@ pub struct Theft {
     pub over: bool,
     ghost of: { IsPassOf (stealer_deque thief) pass },
     ghost one: { (pass_view pass).parts ≡ 1 },
+    ghost apart: { GotApart (pass_view pass) },
     ghost marks: { over ≡ false → ends (pass_view pass).got ≡ 0 },
 }
 
