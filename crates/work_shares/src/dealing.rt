@@ -5,7 +5,7 @@ ghost use Rattle.work_shares.specs.Thefts.{deque_into};
 ghost use Rattle.work_shares.specs.Owners.{deque_of, IsReady, LeadAllOn};
 ghost use Rattle.work_shares.specs.Lending.{AreGiven};
 ghost use Rattle.work_shares.specs.Parts.{IsEmpty, HasRoom};
-ghost use Rattle.work_shares.specs.Shares.{place_of, AreDeal, IsFresh, load_of};
+ghost use Rattle.work_shares.specs.Shares.{place_of, AreDeal, IsGivenItsOwn, IsFresh, load_of};
 
 use crate::block::Cut;
 use crate::deque::Owner;
@@ -94,8 +94,8 @@ fn shares_of<L: Drop>(
 }
 
 /// Cuts the positions below `total` into blocks of `block` positions, the last one shorter where needed, and deals them:
-/// block i goes into the deque of worker i modulo the workers. There are as many workers as loads, and share j carries
-/// load j.
+/// block i goes into the deque of worker i modulo the workers, in rising order, and behind its blocks each deque gets as
+/// many end marks as there are workers. There are as many workers as loads, and share j carries load j.
 ///
 /// Room to note every block and to give the loads back is taken here. After a refusal the loads are dropped.
 pub fn deal<L: Drop>(
@@ -108,6 +108,7 @@ pub fn deal<L: Drop>(
     requires workers { (0 < vec_len loads) × (vec_len loads ≤ 8) }
     requires few { total / block < 2 ^ 24 }
     ensures deal { IfOk result (λ shares. AreDeal total block shares.items) }
+    ensures given { IfOk result (λ shares. All IsGivenItsOwn shares.items) }
     ensures fresh { IfOk result (λ shares. All IsFresh shares.items) }
     ensures loads { IfOk result (λ shares. map load_of shares.items ≡ loads.items) }
 {

@@ -22,7 +22,7 @@ pub struct Share<L> {
 }
 
 impl<L> Share<L> {
-    ghost use Rattle.work_shares.specs.Shares.{place_of, noted_by, is_ended, share_left, HasOwnEnd};
+    ghost use Rattle.work_shares.specs.Shares.{place_of, given_to, noted_by, is_ended, share_left, HasOwnEnd};
 
     /// A block that no other `next` of this deal gives. `None` only once this share's own deque has no more blocks; those
     /// that still lie in other deques are taken by their owners.
@@ -30,6 +30,7 @@ impl<L> Share<L> {
     /// It never waits: at most two rounds of tries to steal.
     pub fn next(&mut self) -> Option<Block>
         ensures place { place_of self.new ≡ place_of self.old }
+        ensures given { given_to self.new ≡ given_to self.old }
         ensures load { self.new.load ≡ self.old.load }
         ensures ended { is_ended self.new ≡ is_none result || is_ended self.old }
 
