@@ -1,5 +1,5 @@
 -- From what all seats know to the least hit.
-use Rattle.std.proofs.Common.{◌≡◌, ℕ, ◌^◌, ◌<◌, ◌≤◌, ◌⊎◌, Bool, true, false, List, [], ◌∷◌, All, Contains, map, flat_map, sum_by, slice_index, refl, sym, ap, ◌∙◌, subst, ⊎_elim, arith}
+use Rattle.std.proofs.Common.{◌≡◌, ℕ, ◌^◌, ◌<◌, ◌≤◌, ◌⊎◌, Bool, true, false, List, [], ◌∷◌, All, Contains, map, flat_map, sum_by, slice_index, get_or, refl, sym, ap, ◌∙◌, subst, ⊎_elim, arith}
 use Rattle.std.specs.List.Sorted.{IsPermutation}
 use Rattle.std.proofs.lemmas.List.Elements.{All-nil, All-map, All-same, All-contains}
 use Rattle.work_shares.specs.declared.block.Block.{Block}
@@ -14,14 +14,14 @@ use Rattle.steal_sweep.specs.declared.best.BestSeat.{BestSeat}
 use Rattle.steal_sweep.specs.declared.search.Seeker.{Seeker}
 use Rattle.steal_sweep.specs.BestRule.{none_yet}
 use Rattle.steal_sweep.specs.Positions.{positions_in}
-use Rattle.steal_sweep.specs.Searches.{IsHit, IsLeastHit, Covers}
-use Rattle.steal_sweep.specs.Seats.{AreNewSeatsOf, known_by}
+use Rattle.steal_sweep.specs.Searches.{IsHit, IsLeastHit, Covers, StandsFor}
+use Rattle.steal_sweep.specs.Seats.{IsSeatOf, AreNewSeatsOf, known_by}
 use Rattle.steal_sweep.proofs.Dealt.{whole_deal}
 use Rattle.steal_sweep.proofs.Lists.{All-from_map, sum_by-map}
 use Rattle.steal_sweep.proofs.Ranges.{in_range}
 
 -- a seat that has put nothing covers no position
-pub covers_none : (truth : ℕ → Bool) (total : ℕ) (v : Known) → v.put ≡ [] → Covers truth total v []
+covers_none : (truth : ℕ → Bool) (total : ℕ) (v : Known) → v.put ≡ [] → Covers truth total v []
 covers_none truth total v none = record { hits = All-same (IsHit truth total) v.put [] none (All-nil (IsHit truth total)); least = All-nil (λ p. truth p ≡ true → v.least ≤ p) }
 
 -- a truth value that isn't true
@@ -32,6 +32,14 @@ not_true false _ = refl
 module _ {L : Type 0} where
   abbrev pub seat_of : Share (Seeker L) → BestSeat
   seat_of s = s.load.seat
+
+  -- where the locals are fit, and the seats are all those of a new word, each seeker stands for no position
+  pub stands_for_none : (fit : L → Bool) (b : Best) (truth : ℕ → Bool) (total : ℕ) (seekers : List (Seeker L)) → All (λ s. fit s.local ≡ true) seekers → AreNewSeatsOf b (map (λ s. s.seat) seekers)
+      → All (λ s. StandsFor fit b truth total s []) seekers
+  stands_for_none fit b truth total seekers fits seats k d lt =
+      let seat = λ (s : Seeker L). s.seat in
+      let new = All-from_map seat (λ s. (known_by s).put ≡ []) seekers seats.new k d lt in
+      (fits k d lt, All-from_map seat (IsSeatOf b) seekers seats.seat k d lt, covers_none truth total (known_by (get_or seekers k d).seat) new)
 
   -- a settled deal gives back what its shares carried
   pub carried_by : (settled : Settled (Seeker L)) (loads : List (Seeker L)) (shares : List (Share (Seeker L))) → loads ≡ loads_of settled → loads_of settled ≡ map load_of shares → loads ≡ map load_of shares

@@ -5,9 +5,9 @@
 //! worker does which block is left to the schedule. Whatever it is, each local stands afterwards for the positions of
 //! the blocks that its share was given, and the blocks of all shares are those dealt, each once.
 //!
-//! `least_hit` is a job whose locals share one word, the best position that any worker has found. A worker skips a
-//! position where the word is no greater, so the workers help one another, and the answer is the least hit whatever the
-//! schedule. The test is stored in a `Sweep` beside the fact that its answer depends on the position alone.
+//! `least_hit` is a job, `Search`, whose locals share one word, the best position that any worker has found. A worker
+//! skips a position where the word is no greater, so the workers help one another, and the answer is the least hit whatever
+//! the schedule. The test is stored in a `Sweep` beside the fact that its answer depends on the position alone.
 //!
 //! No call waits for another thread, and none but `Best::new` takes memory.
 #![tactic(auto)]
@@ -25,7 +25,7 @@ pub use best::{Best, BestSeat};
 pub use each::for_each;
 pub use job::Job;
 pub use least::least_hit;
-pub use search::Seeker;
+pub use search::{Search, Seeker};
 pub use sweep::{Local, Sweep, Test};
 pub use turnstile::{OpenWay, Turnstile};
 

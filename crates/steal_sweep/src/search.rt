@@ -1,6 +1,6 @@
 // The search for the least hit, as a job.
-ghost use Rattle.std.specs.Prelude.{◌≡◌, ◌<◌, true, [], ◌∷◌};
-ghost use Rattle.steal_sweep.specs.Searches.{Covers};
+ghost use Rattle.std.specs.Prelude.{◌≡◌, ℕ, ◌<◌, true, List, [], ◌∷◌, ◌++◌};
+ghost use Rattle.steal_sweep.specs.Searches.{StandsFor, Seeks};
 
 use crate::best::{Best, BestSeat};
 use crate::job::Job;
@@ -13,9 +13,15 @@ pub struct Seeker<L> {
     pub local: L,
 }
 
-/// The search for the least hit of a sweep.
+/// The search for the least hit of a sweep: the job that the workers of `least_hit` do.
+///
+/// At each position a worker loads the best word, skips the position where that word is no greater, and asks the test
+/// everywhere else. A seeker stands for the positions of a list where its local is fit, what its seat put are hits, and the
+/// seat knows a number that no hit of the list is below.
+///
+/// A caller who wants the seekers back gives it to `for_each`.
 #[derive(Drop)]
-pub(crate) struct Search<'a, L: Local, F: Test<L>> {
+pub struct Search<'a, L: Local, F: Test<L>> {
     pub sweep: &'a Sweep<L, F>,
     pub best: &'a Best,
 }
@@ -25,13 +31,21 @@ impl<'a, L: Local, F: Test<L>> Job<Seeker<L>> for Search<'a, L, F> {
 
     ghost own = { λ job position. position < job.sweep.now.total };
 
-    ghost stands = { λ job seeker done. (L.fit seeker.local ≡ true) × IsSeatOf job.best.now seeker.seat
-        × Covers (F.truth job.sweep.now.test) job.sweep.now.total (known_by seeker.seat) done };
+    ghost stands = { λ job seeker done.
+        StandsFor L.fit job.best.now (F.truth job.sweep.now.test) job.sweep.now.total seeker done };
 
     ghost name = { λ job seeker. (known_by seeker.seat).parts ∷ [] };
 
-    // A position is skipped only where the best word is no greater.
-    fn turn(&self, seeker: &mut Seeker<L>, position: u64) {
+    /// Loads the best word, and asks the test unless that word is no greater than the position.
+    fn turn(&self, seeker: &mut Seeker<L>, position: u64)
+        requires own { position < self.now.sweep.now.total }
+        requires fit { L.fit seeker.old.local ≡ true }
+        requires seat { IsSeatOf self.now.best.now seeker.old.seat }
+        ensures stands { let stands = StandsFor L.fit self.now.best.now (F.truth self.now.sweep.now.test) self.now.sweep.now.total in
+            (done : List ℕ) → stands seeker.old done → stands seeker.new (done ++ position ∷ []) }
+        ensures name { (known_by seeker.new.seat).parts ∷ [] ≡ (known_by seeker.old.seat).parts ∷ [] }
+        ensures seeks { Seeks F.gives self.now.sweep.now.test seeker.old position seeker.new }
+    {
         if self.best.load(&mut seeker.seat) <= position {
             return;
         }

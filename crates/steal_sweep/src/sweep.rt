@@ -60,6 +60,7 @@ impl<L: Local, F: Test<L>> Sweep<L, F> {
         requires position { position < self.now.total }
         ensures fit { L.fit local.new ≡ true }
         ensures truth { result ≡ F.truth self.now.test position }
+        ensures gives { F.gives self.now.test local.old position result local.new }
     {
         self.test.answer(local, position)
     }

@@ -1,10 +1,11 @@
-ghost use Rattle.std.specs.Prelude.{◌≡◌, ◌<◌, ◌≤◌, ◌^◌, length, map, IfOk};
+ghost use Rattle.std.specs.Prelude.{◌≡◌, ◌<◌, ◌≤◌, ◌^◌, All, length, map, IfOk};
+ghost use Rattle.work_shares.specs.Shares.{AreDeal, IsFresh, load_of};
 ghost use Rattle.steal_sweep.specs.Seats.{AreNewSeatsOf};
 
-use crate::{Best, BestSeat, Local, Seeker, Sweep, Test, Turnstile, least_hit};
+use crate::{Best, BestSeat, Local, Search, Seeker, Sweep, Test, Turnstile, for_each, least_hit};
 use std::alloc::{AllocError, Global};
 use std::thread::Threads;
-use work_shares::deal;
+use work_shares::{Share, deal};
 
 /// A local that counts its calls.
 #[derive(Drop)]
@@ -49,7 +50,25 @@ fn seekers(alloc: Global, seats: Vec<BestSeat>) -> Result<Vec<Seeker<Calls>>, Al
         .collect(alloc)
 }
 
-/// The least hit of a table in blocks of 64.
+/// A best word, and a share in blocks of 64 for each of its seats.
+fn dealt(
+    alloc: Global,
+    total: u64,
+    workers: u32,
+) -> Result<(Best, Vec<Share<Seeker<Calls>>>), AllocError>
+    requires short { total ≤ 2 ^ 29 }
+    requires some { 1 ≤ workers }
+    requires few { workers ≤ 8 }
+    ensures deal { IfOk result (λ r. AreDeal total 64 r.1.items) }
+    ensures fresh { IfOk result (λ r. All IsFresh r.1.items) }
+    ensures seats { IfOk result (λ r. AreNewSeatsOf r.0 (map (λ s. s.seat) (map load_of r.1.items))) }
+{
+    let (best, seats) = Best::new(alloc, workers)?;
+    let shares = deal(alloc, total, 64, seekers(alloc, seats)?)?;
+    Ok((best, shares))
+}
+
+/// The least hit of a table.
 pub fn search<H: Threads + Sync, G: Turnstile + Sync>(
     th: &H,
     alloc: Global,
@@ -61,9 +80,34 @@ pub fn search<H: Threads + Sync, G: Turnstile + Sync>(
     requires some { 1 ≤ workers }
     requires few { workers ≤ 8 }
 {
-    let (best, seats) = Best::new(alloc, workers)?;
     let total = truths.len() as u64;
-    let shares = deal(alloc, total, 64, seekers(alloc, seats)?)?;
+    let (best, shares) = dealt(alloc, total, workers)?;
     let sweep = Sweep::new(total, Table { truths });
     Ok(least_hit(th, &sweep, shares, best, gate))
+}
+
+/// How often a search asks for a truth value of a table, all workers together.
+pub fn asked<H: Threads + Sync, G: Turnstile + Sync>(
+    th: &H,
+    alloc: Global,
+    truths: &[bool],
+    workers: u32,
+    gate: &G,
+) -> Result<u64, AllocError>
+    requires short { length truths.now ≤ 2 ^ 29 }
+    requires some { 1 ≤ workers }
+    requires few { workers ≤ 8 }
+{
+    let total = truths.len() as u64;
+    let (best, mut shares) = dealt(alloc, total, workers)?;
+    let sweep = Sweep::new(total, Table { truths });
+    let search = Search {
+        sweep: &sweep,
+        best: &best,
+    };
+    for_each(th, &mut shares, &search, gate);
+    let calls = shares.iter().fold(0u64, |calls, share| {
+        calls.wrapping_add(share.load.local.0)
+    });
+    Ok(calls)
 }

@@ -1,26 +1,19 @@
-use Rattle.std.proofs.Common.{rules, ◌≡◌, ℕ, ◌<◌, [], length, map, get_or, ◌∙◌}
+use Rattle.std.proofs.Common.{rules, ℕ, ◌<◌, length, map, ◌∙◌}
 use Rattle.std.proofs.lemmas.List.Elements.{All-map, All-same}
 use Rattle.work_shares.specs.declared.share.Share.{Share}
 use Rattle.work_shares.specs.Shares.{load_of, blocks_of}
 use Rattle.steal_sweep.specs.declared.search.Seeker.{Seeker}
 use Rattle.steal_sweep.specs.Seats.{IsSeatOf, known_by}
-use Rattle.steal_sweep.proofs.Lists.{All-from_map}
 use Rattle.work_shares.proofs.Kept.{AreDeal-size}
-use Rattle.steal_sweep.proofs.Found.{covers_none, carried_by, parts_whole, no_hit_below, put_hits, word_is_least, none_below}
+use Rattle.steal_sweep.proofs.Found.{stands_for_none, carried_by, parts_whole, no_hit_below, put_hits, word_is_least, none_below}
 use Rattle.steal_sweep.proofs.least.least_hit.Goals as goal
 
 pub for_each-requires-clause-deal : goal.for_each-requires-clause-deal
 for_each-requires-clause-deal g c κs within = (c.args.sweep.now.total, (c.requires.deal.0, c.requires.deal.1, λ p lt. lt))
 
 pub for_each-requires-clause-stands : goal.for_each-requires-clause-stands
-for_each-requires-clause-stands g c κs within k d lt =
-    let loads = map load_of c.args.shares.items in
-    let seats = c.requires.seats in
-    let seat = λ (s : Seeker g.row.L.Denot). s.seat in (
-      c.requires.fit k d lt,
-      All-from_map seat (IsSeatOf c.args.best) loads seats.seat k d lt,
-      covers_none (g.F.Test.truth c.args.sweep.now.test) c.args.sweep.now.total (known_by (get_or loads k d).seat) (All-from_map seat (λ s. (known_by s).put ≡ []) loads seats.new k d lt),
-    )
+for_each-requires-clause-stands g c κs within =
+    stands_for_none g.L.Local.fit c.args.best (g.F.Test.truth c.args.sweep.now.test) c.args.sweep.now.total (map load_of c.args.shares.items) c.requires.fit c.requires.seats
 
 pub settle-requires-clause-deal : goal.settle-requires-clause-deal
 settle-requires-clause-deal g c = (c.args.sweep.now.total, (c.requires.deal.0, c.for_each.ensures.deal c.args.sweep.now.total c.requires.deal.0 c.requires.deal.1))

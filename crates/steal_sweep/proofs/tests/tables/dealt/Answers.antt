@@ -4,10 +4,10 @@ use Rattle.steal_sweep.specs.declared.search.Seeker.{Seeker}
 use Rattle.steal_sweep.specs.declared.tests.tables.Calls.{Calls}
 use Rattle.steal_sweep.specs.Seats.{AreNewSeatsOf}
 use Rattle.steal_sweep.proofs.Lists.{map_back}
-use Rattle.steal_sweep.proofs.tests.tables.search.Goals as goal
+use Rattle.steal_sweep.proofs.tests.tables.dealt.Goals as goal
 
-pub least_hit-requires-clause-seats : goal.least_hit-requires-clause-seats
-least_hit-requires-clause-seats g c κs within =
+pub returns-clause-seats : goal.returns-clause-seats
+returns-clause-seats c =
     let seat = λ (s : Seeker Calls). s.seat in
     let seekers = λ (s : BestSeat). let x : Seeker Calls = record { seat = s; local = record { 0 = 0 } } in x in
     let seats = c.in_ok-best.seats.items in
