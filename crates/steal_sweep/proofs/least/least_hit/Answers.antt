@@ -15,8 +15,8 @@ pub for_each-requires-clause-stands : goal.for_each-requires-clause-stands
 for_each-requires-clause-stands g c κs within =
     stands_for_none g.L.Local.fit c.args.best (g.F.Test.truth c.args.sweep.now.test) c.args.sweep.now.total (map load_of c.args.shares.items) c.requires.fit c.requires.seats
 
-pub settle-requires-clause-deal : goal.settle-requires-clause-deal
-settle-requires-clause-deal g c = (c.args.sweep.now.total, (c.requires.deal.0, c.for_each.ensures.deal c.args.sweep.now.total c.requires.deal.0 c.requires.deal.1))
+pub settle-requires : goal.settle-requires
+settle-requires g c = (c.args.sweep.now.total, (c.requires.deal.0, c.for_each.ensures.deal c.args.sweep.now.total c.requires.deal.0 c.requires.deal.1))
 
 pub join_seats-seat-requires-clause-seats : goal.join_seats-seat-requires-clause-seats
 join_seats-seat-requires-clause-seats g c =
@@ -35,7 +35,7 @@ returns-then-word-sweep-clause-some g c =
     let shares = c.for_each.new.shares.items in
     let carried = carried_by c.settle.result c.loads.result.items c.for_each.new.shares.items c.loads.ensures c.settle.ensures.loads in
     let covered = λ (k : ℕ) (d : Share (Seeker g.row.L.Denot)) (lt : k < length shares). (c.for_each.ensures.stands k d lt).2 in
-    let once = c.settle.ensures.once total c.requires.deal.0 (c.for_each.ensures.deal total c.requires.deal.0 c.requires.deal.1) in
+    let once = c.settle.ensures.once total c.requires.deal.0 (c.for_each.ensures.deal total c.requires.deal.0 c.requires.deal.1) c.for_each.ensures.ended in
     word_is_least truth total c.close-word.result (known_by c.join_seats-seat.result).put c.if-word-sweep.true (search rules) c.close-word.ensures.put
     (c.join_seats-seat.ensures.hits truth total (put_hits truth total shares c.loads.result.items carried covered))
     (no_hit_below truth total c.requires.deal.0 c.close-word.result (known_by c.join_seats-seat.result).least shares c.loads.result.items (blocks_of c.settle.result) (AreDeal-size total c.requires.deal.0 c.args.shares.items c.requires.deal.1) carried c.settle.ensures.blocks once covered c.close-word.ensures.least c.join_seats-seat.ensures.least)
@@ -47,6 +47,6 @@ returns-else-word-sweep-clause-none g c =
     let shares = c.for_each.new.shares.items in
     let carried = carried_by c.settle.result c.loads.result.items c.for_each.new.shares.items c.loads.ensures c.settle.ensures.loads in
     let covered = λ (k : ℕ) (d : Share (Seeker g.row.L.Denot)) (lt : k < length shares). (c.for_each.ensures.stands k d lt).2 in
-    let once = c.settle.ensures.once total c.requires.deal.0 (c.for_each.ensures.deal total c.requires.deal.0 c.requires.deal.1) in
+    let once = c.settle.ensures.once total c.requires.deal.0 (c.for_each.ensures.deal total c.requires.deal.0 c.requires.deal.1) c.for_each.ensures.ended in
     none_below truth total c.close-word.result c.if-word-sweep.false
     (no_hit_below truth total c.requires.deal.0 c.close-word.result (known_by c.join_seats-seat.result).least shares c.loads.result.items (blocks_of c.settle.result) (AreDeal-size total c.requires.deal.0 c.args.shares.items c.requires.deal.1) carried c.settle.ensures.blocks once covered c.close-word.ensures.least c.join_seats-seat.ensures.least)
