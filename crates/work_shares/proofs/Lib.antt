@@ -16,6 +16,7 @@ pub mod Parting
 pub mod Full
 pub mod Ties
 pub mod Settles
+pub mod Positions
 pub mod Steps
 pub mod Pushing
 pub mod LendingOne

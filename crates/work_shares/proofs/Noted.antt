@@ -11,7 +11,7 @@ use Rattle.work_shares.specs.Entries.{weight_of}
 use Rattle.work_shares.specs.Thefts.{pushed_into, got_by}
 use Rattle.work_shares.specs.Seats.{count_of, IsSeated}
 use Rattle.work_shares.proofs.Counts.{sum_by-mapped}
-use Rattle.work_shares.proofs.Permuted.{part_of}
+use Rattle.work_shares.proofs.Permuted.{part_of, same_pair, tells_pairs}
 use Rattle.work_shares.proofs.AllGiven.{sum_by-entries_all}
 
 -- thefts got no more than was pushed where they lead
@@ -38,4 +38,4 @@ noted_le s h weight =
 
 -- the blocks that the seat noted are dealt ones, none twice
 pub noted_apart : (s : Seat) → IsSeated s → AreApart s.cut.total s.cut.size (extents_of s.noted.items)
-noted_apart s h = part_of (extents_of s.noted.items) (dealt s.cut.total s.cut.size) (noted_le s h)
+noted_apart s h = part_of same_pair tells_pairs (extents_of s.noted.items) (dealt s.cut.total s.cut.size) (noted_le s h)

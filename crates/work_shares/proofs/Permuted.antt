@@ -1,4 +1,4 @@
--- Lists of pairs by their sums: one with sums as great as another's has its elements, and one with the same sums is a permutation of it.
+-- Lists by their sums: one whose sums are as great as another's has its elements, and one with the same sums is a permutation of it.
 use Rattle.std.proofs.Common.{◌≡◌, ℕ, ◌==◌, ◌&&◌, ◌<◌, ◌≤◌, Bool, true, false, cond, List, [], ◌∷◌, ◌++◌, IsPermutation, refl, sym, ap, ◌∙◌, subst, arith}
 use Rattle.std.specs.List.{sum_by}
 use Rattle.std.proofs.lemmas.List.{append-nil}
@@ -6,67 +6,74 @@ use Rattle.std.proofs.lemmas.List.Sums.{sum_by-cons, sum_by-append}
 use Rattle.std.proofs.lemmas.List.Sorted.{IsPermutation-refl, IsPermutation-cons, IsPermutation-middle, IsPermutation-trans, sum_by-IsPermutation}
 use Rattle.std.proofs.lemmas.Bool.Decides.{nat_tests}
 
--- a test of pairs
-abbrev same_pair : ℕ × ℕ → ℕ × ℕ → Bool
+-- a test that tells elements apart
+pub record Tells {X : Type 0} (same : X → X → Bool) : Type 0 where
+  pub only : (x y : X) → same x y ≡ true → y ≡ x
+  pub itself : (x : X) → same x x ≡ true
+
+module _ {X : Type 0} (same : X → X → Bool) (tells : Tells same) where
+  -- the test as a number
+  abbrev is_it : X → X → ℕ
+  is_it x y = cond (same x y) 1 0
+
+  -- where an element is found
+  abbrev Found : X → List X → Type 0
+  Found x ys = (before : List X) × ((after : List X) × (ys ≡ before ++ x ∷ after))
+
+  -- it is the first element, or it comes later
+  found_first : (x y : X) (ys : List X) (b : Bool) → same x y ≡ b → 0 < sum_by (is_it x) (y ∷ ys) → (0 < sum_by (is_it x) ys → Found x ys) → Found x (y ∷ ys)
+  found_first x y ys true e some rest = ([], (ys, ap (λ z. z ∷ ys) (tells.only x y e)))
+  found_first x y ys false e some rest =
+      let none : is_it x y ≡ 0 = ap (λ b. cond b 1 0) e in
+      let f : Found x ys = rest (omega (arith, sum_by-cons (is_it x) y ys)) in
+      (y ∷ f.0, (f.1.0, ap (λ l. y ∷ l) f.1.1))
+
+  found : (x : X) (ys : List X) → 0 < sum_by (is_it x) ys → Found x ys
+  found x [] some = absurd (omega arith)
+  found x (y ∷ ys) some = found_first x y ys (same x y) refl some (found x ys)
+
+  -- where no sum is greater, the list is a part of the other
+  pub part_of : (xs ys : List X) → ((weight : X → ℕ) → sum_by weight xs ≤ sum_by weight ys) → (left : List X) × IsPermutation ys (xs ++ left)
+  part_of [] ys le = (ys, IsPermutation-refl ys)
+  part_of (x ∷ xs) ys le =
+      let own : is_it x x ≡ 1 = ap (λ b. cond b 1 0) (tells.itself x) in
+      let f = found x ys (let some = le (is_it x) in omega (arith, sum_by-cons (is_it x) x xs)) in
+      let before = f.0 in
+      let after = f.1.0 in
+      let is : ys ≡ before ++ x ∷ after = f.1.1 in
+      let less : (weight : X → ℕ) → sum_by weight xs ≤ sum_by weight (before ++ after) = λ weight.
+      omega (arith, le weight, sum_by-cons weight x xs, ap (sum_by weight) is, sum_by-append weight before (x ∷ after), sum_by-cons weight x after, sum_by-append weight before after) in
+      let rest = part_of xs (before ++ after) less in (
+        rest.0,
+        subst (λ (l : List X). IsPermutation l (x ∷ xs ++ rest.0)) (sym is)
+            (IsPermutation-trans (before ++ x ∷ after) (x ∷ (before ++ after)) (x ∷ xs ++ rest.0) (IsPermutation-middle before x after)
+            (IsPermutation-cons x (before ++ after) (xs ++ rest.0) rest.1)),
+      )
+
+  -- where all sums are the same, nothing is left
+  pub permuted : (xs ys : List X) → ((weight : X → ℕ) → sum_by weight xs ≡ sum_by weight ys) → IsPermutation xs ys
+  permuted xs ys equal =
+      let part = part_of ys xs (λ weight. omega (arith, equal weight)) in
+      let one : X → ℕ = λ _. 1 in
+      let none : part.0 ≡ [] = empty part.0 (omega (arith, equal one, sum_by-IsPermutation one xs (ys ++ part.0) part.1, sum_by-append one ys part.0)) in
+      subst (IsPermutation xs) (ap (λ l. ys ++ l) none ∙ append-nil ys) part.1
+    where
+      empty : (zs : List X) → sum_by (λ _. 1) zs ≡ 0 → zs ≡ []
+      empty [] e = refl
+      empty (z ∷ zs) e = absurd (let one : X → ℕ = λ _. 1 in omega (arith, sum_by-cons one z zs))
+
+-- numbers are told apart by their test
+pub tells_numbers : Tells (λ (a b : ℕ). a == b)
+tells_numbers = record { only = λ a b e. grind (arith, nat_tests); itself = λ a. grind (arith, nat_tests) }
+
+-- a test of pairs of numbers
+abbrev pub same_pair : ℕ × ℕ → ℕ × ℕ → Bool
 same_pair p q = (p.0 == q.0) && (p.1 == q.1)
 
--- the same as a number
-abbrev is_pair : ℕ × ℕ → ℕ × ℕ → ℕ
-is_pair p q = cond (same_pair p q) 1 0
+-- pairs with the same parts
+pair_of : (p q : ℕ × ℕ) → q.0 ≡ p.0 → q.1 ≡ p.1 → q ≡ p
+pair_of p q a b = ap (λ k. (k, q.1)) a ∙ ap (λ k. (p.0, k)) b
 
--- what a test of pairs says
-pair_is : (p q : ℕ × ℕ) → same_pair p q ≡ true → q ≡ p
-pair_is p q e =
-    let a : q.0 ≡ p.0 = grind (arith, nat_tests) in
-    let b : q.1 ≡ p.1 = grind (arith, nat_tests) in
-    ap (λ k. (k, q.1)) a ∙ ap (λ k. (p.0, k)) b
-
--- a pair passes its own test
-pair_same : (p : ℕ × ℕ) → same_pair p p ≡ true
-pair_same p = grind (arith, nat_tests)
-
--- where a pair is found
-abbrev Found : ℕ × ℕ → List (ℕ × ℕ) → Type 0
-Found p qs = (before : List (ℕ × ℕ)) × ((after : List (ℕ × ℕ)) × (qs ≡ before ++ p ∷ after))
-
--- it is the first pair, or it comes later
-found_first : (p q : ℕ × ℕ) (qs : List (ℕ × ℕ)) (b : Bool) → same_pair p q ≡ b → 0 < sum_by (is_pair p) (q ∷ qs) → (0 < sum_by (is_pair p) qs → Found p qs) → Found p (q ∷ qs)
-found_first p q qs true e some rest = ([], (qs, ap (λ r. r ∷ qs) (pair_is p q e)))
-found_first p q qs false e some rest =
-    let none : is_pair p q ≡ 0 = ap (λ b. cond b 1 0) e in
-    let f : Found p qs = rest (omega (arith, sum_by-cons (is_pair p) q qs)) in
-    (q ∷ f.0, (f.1.0, ap (λ l. q ∷ l) f.1.1))
-
-found : (p : ℕ × ℕ) (qs : List (ℕ × ℕ)) → 0 < sum_by (is_pair p) qs → Found p qs
-found p [] some = absurd (omega arith)
-found p (q ∷ qs) some = found_first p q qs (same_pair p q) refl some (found p qs)
-
--- where no sum is greater, the list is a part of the other
-pub part_of : (ps qs : List (ℕ × ℕ)) → ((weight : ℕ × ℕ → ℕ) → sum_by weight ps ≤ sum_by weight qs) → (left : List (ℕ × ℕ)) × IsPermutation qs (ps ++ left)
-part_of [] qs le = (qs, IsPermutation-refl qs)
-part_of (p ∷ ps) qs le =
-    let own : is_pair p p ≡ 1 = ap (λ b. cond b 1 0) (pair_same p) in
-    let f = found p qs (let some = le (is_pair p) in omega (arith, sum_by-cons (is_pair p) p ps)) in
-    let before = f.0 in
-    let after = f.1.0 in
-    let is : qs ≡ before ++ p ∷ after = f.1.1 in
-    let less : (weight : ℕ × ℕ → ℕ) → sum_by weight ps ≤ sum_by weight (before ++ after) = λ weight.
-    omega (arith, le weight, sum_by-cons weight p ps, ap (sum_by weight) is, sum_by-append weight before (p ∷ after), sum_by-cons weight p after, sum_by-append weight before after) in
-    let rest = part_of ps (before ++ after) less in (
-      rest.0,
-      subst (λ (l : List (ℕ × ℕ)). IsPermutation l (p ∷ ps ++ rest.0)) (sym is)
-          (IsPermutation-trans (before ++ p ∷ after) (p ∷ (before ++ after)) (p ∷ ps ++ rest.0) (IsPermutation-middle before p after)
-          (IsPermutation-cons p (before ++ after) (ps ++ rest.0) rest.1)),
-    )
-
--- where all sums are the same, nothing is left
-pub permuted : (ps qs : List (ℕ × ℕ)) → ((weight : ℕ × ℕ → ℕ) → sum_by weight ps ≡ sum_by weight qs) → IsPermutation ps qs
-permuted ps qs same =
-    let part = part_of qs ps (λ weight. omega (arith, same weight)) in
-    let one : ℕ × ℕ → ℕ = λ _. 1 in
-    let none : part.0 ≡ [] = empty part.0 (omega (arith, same one, sum_by-IsPermutation one ps (qs ++ part.0) part.1, sum_by-append one qs part.0)) in
-    subst (IsPermutation ps) (ap (λ l. qs ++ l) none ∙ append-nil qs) part.1
-  where
-    empty : (ps : List (ℕ × ℕ)) → sum_by (λ _. 1) ps ≡ 0 → ps ≡ []
-    empty [] e = refl
-    empty (p ∷ ps) e = absurd (let one : ℕ × ℕ → ℕ = λ _. 1 in omega (arith, sum_by-cons one p ps))
+-- the test tells them apart
+pub tells_pairs : Tells same_pair
+tells_pairs = record { only = λ p q e. pair_of p q (grind (arith, nat_tests)) (grind (arith, nat_tests)); itself = λ p. grind (arith, nat_tests) }

@@ -19,7 +19,7 @@ use Rattle.work_shares.specs.Shares.{place_of, noted_by, AreDeal}
 use Rattle.work_shares.specs.Apart.{own_of, thefts_of}
 use Rattle.work_shares.proofs.Counts.{sum_by-mapped, sum_by-numbers_of}
 use Rattle.work_shares.proofs.Pushes.{sum_by-entries_of}
-use Rattle.work_shares.proofs.Permuted.{part_of, permuted}
+use Rattle.work_shares.proofs.Permuted.{part_of, permuted, same_pair, tells_pairs}
 use Rattle.work_shares.proofs.AllBack.{all_got}
 use Rattle.work_shares.proofs.Ties.{place_at}
 
@@ -131,8 +131,8 @@ module _ {L : Type 0} (total size : ℕ) (shares : List (Share L)) (new : List O
 
   -- no block was noted twice
   pub apart_dealt : AreApart total size (flat_map extents_of (map noted_by shares))
-  apart_dealt = part_of (flat_map extents_of (map noted_by shares)) (dealt total size) (λ weight. (noted_weigh weight).0)
+  apart_dealt = part_of same_pair tells_pairs (flat_map extents_of (map noted_by shares)) (dealt total size) (λ weight. (noted_weigh weight).0)
 
   -- where all owners have end marks, each dealt block was noted once
   pub once_dealt : All HasMark new → IsPermutation (dealt total size) (flat_map extents_of (map noted_by shares))
-  once_dealt marked = permuted (dealt total size) (flat_map extents_of (map noted_by shares)) (λ weight. (noted_weigh weight).1 marked)
+  once_dealt marked = permuted same_pair tells_pairs (dealt total size) (flat_map extents_of (map noted_by shares)) (λ weight. (noted_weigh weight).1 marked)

@@ -13,6 +13,8 @@ use Rattle.work_shares.specs.Apart.{own_of, thefts_of, notes_of}
 use Rattle.work_shares.proofs.AllBack.{lengths_of, all_got}
 use Rattle.work_shares.proofs.Ties.{place_at, all_lead, all_live, all_marked, owners_whole}
 use Rattle.work_shares.proofs.Settles.{Settling, apart_dealt, once_dealt}
+use Rattle.work_shares.proofs.Positions.{positions_once}
+use Rattle.work_shares.proofs.Kept.{AreDeal-size}
 use Rattle.work_shares.proofs.settling.settle.Goals as goal
 
 -- what holds of each share of a deal holds of the first one
@@ -84,3 +86,7 @@ returns-clause-once g c total block deal ended =
     let s = settling total block c.args.shares.items _ c.take_back_all.new.owners.items _ e.owners e.thefts deal c.take_back_all.ensures.took c.learn_all.ensures.learnt in
     let marked = c.take_back_all.ensures.marked (subst (All HasMark) (sym e.owners) (all_marked c.args.shares.items ended)) in
     subst (λ (l : List (List Block)). IsPermutation (dealt total block) (flat_map extents_of l)) (sym (blocks_are c.args.shares.items c.parted-owners.result.notes.items e.notes)) (once_dealt total block c.args.shares.items c.take_back_all.new.owners.items s marked)
+
+pub returns-clause-positions : goal.returns-clause-positions
+returns-clause-positions g c total block deal ended =
+    positions_once total block (flat_map extents_of (map (λ (own : Vec Block Global). own.items) c.parted-owners.result.notes.items)) (AreDeal-size total block c.args.shares.items deal) (returns-clause-once g c total block deal ended)
