@@ -9,7 +9,7 @@ use gates::{Delays, Meeting, Turns, mixed};
 use marks::mark;
 use std::alloc::{AllocError, Global};
 use std::test::Fail;
-use tables::{asked, search};
+use tables::{asked, counted, search};
 use work_shares::Share;
 
 /// Truth values of the positions below `total`: true at the hits.
@@ -46,6 +46,10 @@ fn no_test_beyond_the_least_hit(rt: HostRuntime) -> Result<(), Fail> {
     let truths = table_of(rt.alloc(), 1000, &[700, 130])?;
     // The one worker asks at 0 to 130, and then the word is 130.
     assert_eq!(rt; asked(&rt, rt.alloc(), &truths, 1, &OpenWay)?, 131);
+    assert_eq!(rt;
+        counted(&rt, rt.alloc(), &truths, 1, &OpenWay)?,
+        (Some(130), 131)
+    );
     Ok(())
 }
 

@@ -4,10 +4,11 @@ ghost use Rattle.steal_sweep.specs.Seats.{AreNewSeatsOf};
 
 use crate::{Best, BestSeat, Local, Search, Seeker, Sweep, Test, Turnstile, for_each, least_hit};
 use std::alloc::{AllocError, Global};
+use std::sync::atomic::{AtomicU64, Ordering};
 use std::thread::Threads;
 use work_shares::{Share, deal};
 
-/// A local that counts its calls.
+/// A local that counts its own calls.
 #[derive(Drop)]
 pub struct Calls(u64);
 
@@ -17,10 +18,22 @@ impl Local for Calls {
     ghost fit = { λ _. true };
 }
 
-/// A table of truth values.
+/// A table of truth values, which counts all calls.
 #[derive(Drop)]
 pub struct Table<'a> {
     truths: &'a [bool],
+    asked: AtomicU64,
+}
+
+impl<'a> Table<'a> {
+    fn new(truths: &'a [bool]) -> Table<'a>
+        ensures { result.truths.now ≡ truths.now }
+    {
+        Table {
+            truths,
+            asked: AtomicU64::new(0),
+        }
+    }
 }
 
 impl<'a> Test<Calls> for Table<'a> {
@@ -34,6 +47,7 @@ impl<'a> Test<Calls> for Table<'a> {
 
     fn answer(&self, local: &mut Calls, position: u64) -> bool {
         local.0 = local.0.wrapping_add(1);
+        self.asked.fetch_add(1, Ordering::SeqCst);
         self.truths[position as usize]
     }
 }
@@ -68,6 +82,25 @@ fn dealt(
     Ok((best, shares))
 }
 
+/// The least hit of a table, and how often it was asked.
+pub fn counted<H: Threads + Sync, G: Turnstile + Sync>(
+    th: &H,
+    alloc: Global,
+    truths: &[bool],
+    workers: u32,
+    gate: &G,
+) -> Result<(Option<u64>, u64), AllocError>
+    requires short { length truths.now ≤ 2 ^ 29 }
+    requires some { 1 ≤ workers }
+    requires few { workers ≤ 8 }
+{
+    let total = truths.len() as u64;
+    let (best, shares) = dealt(alloc, total, workers)?;
+    let sweep = Sweep::new(total, Table::new(truths));
+    let hit = least_hit(th, &sweep, shares, best, gate);
+    Ok((hit, sweep.test.asked.load(Ordering::SeqCst)))
+}
+
 /// The least hit of a table.
 pub fn search<H: Threads + Sync, G: Turnstile + Sync>(
     th: &H,
@@ -80,13 +113,11 @@ pub fn search<H: Threads + Sync, G: Turnstile + Sync>(
     requires some { 1 ≤ workers }
     requires few { workers ≤ 8 }
 {
-    let total = truths.len() as u64;
-    let (best, shares) = dealt(alloc, total, workers)?;
-    let sweep = Sweep::new(total, Table { truths });
-    Ok(least_hit(th, &sweep, shares, best, gate))
+    let (hit, _asked) = counted(th, alloc, truths, workers, gate)?;
+    Ok(hit)
 }
 
-/// How often a search asks for a truth value of a table, all workers together.
+/// How often the job of a search asks a table, as its locals count.
 pub fn asked<H: Threads + Sync, G: Turnstile + Sync>(
     th: &H,
     alloc: Global,
@@ -100,7 +131,7 @@ pub fn asked<H: Threads + Sync, G: Turnstile + Sync>(
 {
     let total = truths.len() as u64;
     let (best, mut shares) = dealt(alloc, total, workers)?;
-    let sweep = Sweep::new(total, Table { truths });
+    let sweep = Sweep::new(total, Table::new(truths));
     let search = Search {
         sweep: &sweep,
         best: &best,
