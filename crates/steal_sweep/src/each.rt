@@ -1,6 +1,6 @@
 // A job over all positions of a deal.
 ghost use Rattle.std.specs.Prelude.{◌≡◌, ℕ, ◌<◌, ◌≤◌, [], List, All, IsTrue, map, length, slice_index_or};
-ghost use Rattle.work_shares.specs.Shares.{AreDeal, IsFresh, place_of, noted_by, is_ended, load_of};
+ghost use Rattle.work_shares.specs.Shares.{AreDeal, IsFresh, AreEnded, place_of, noted_by, is_ended, load_of};
 ghost use Rattle.steal_sweep.specs.Positions.{positions_in};
 
 use crate::job::{Job, do_positions};
@@ -41,7 +41,7 @@ fn work_all<H: Threads + Sync, L: Send, J: Job<L> + Sync, G: Turnstile + Sync>(
     requires stands { All (λ s. J.stands job.now s.load []) shares.old }
     ensures place { (k : ℕ) (d : Share L) → k < length shares.old
         → place_of (slice_index_or shares.new k d) ≡ place_of (slice_index_or shares.old k d) }
-    ensures ended { All (λ s. IsTrue (is_ended s)) shares.new }
+    ensures ended { AreEnded shares.new }
     ensures stands { All (λ s. J.stands job.now s.load (positions_in (noted_by s))) shares.new }
     ensures name { (k : ℕ) (d : Share L) → k < length shares.old
         → J.name job.now (slice_index_or shares.new k d).load ≡ J.name job.now (slice_index_or shares.old k d).load }
@@ -71,7 +71,7 @@ pub fn for_each<H: Threads + Sync, L: Send, J: Job<L> + Sync, G: Turnstile + Syn
     requires stands { All (λ local. J.stands job.now local []) (map load_of shares.old.items) }
     ensures deal { (total block : ℕ) → AreDeal total block shares.old.items
         → AreDeal total block shares.new.items }
-    ensures ended { All (λ s. IsTrue (is_ended s)) shares.new.items }
+    ensures ended { AreEnded shares.new.items }
     ensures stands { All (λ s. J.stands job.now s.load (positions_in (noted_by s))) shares.new.items }
     ensures name { map (λ s. J.name job.now s.load) shares.new.items
         ≡ map (λ s. J.name job.now s.load) shares.old.items }

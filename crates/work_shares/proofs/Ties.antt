@@ -14,7 +14,7 @@ use Rattle.work_shares.specs.Seats.{count_of}
 use Rattle.work_shares.specs.Rule.{all_parts}
 use Rattle.work_shares.specs.Places.{Place}
 use Rattle.work_shares.specs.Owners.{Owner, deque_of, parts_of, LeadAllOn, IsLive, HasMark, TookBack}
-use Rattle.work_shares.specs.Shares.{place_of, is_ended, AreDeal}
+use Rattle.work_shares.specs.Shares.{place_of, is_ended, AreDeal, AreEnded}
 use Rattle.work_shares.specs.Apart.{own_of, thefts_of}
 use Rattle.work_shares.proofs.AllBack.{lengths_of}
 use Rattle.work_shares.proofs.Full.{ways_full}
@@ -67,7 +67,7 @@ module _ {L : Type 0} where
   marked_share s ended = let m = s.seated.stands.marked in m.over (m.ended ended)
 
   -- where all shares have ended, all owners have end marks
-  pub all_marked : (shares : List (Share L)) → All (λ s. IsTrue (is_ended s)) shares → All HasMark (map own_of shares)
+  pub all_marked : (shares : List (Share L)) → AreEnded shares → All HasMark (map own_of shares)
   all_marked shares ended = All-map HasMark own_of shares (All-weaker (λ (s : Share L). IsTrue (is_ended s)) (λ s. HasMark (own_of s)) marked_share shares ended)
 
   -- how many thefts a share has, and how many parts

@@ -1,11 +1,12 @@
 -- Shares and settled deals as callers see them.
-use Rattle.std.specs.Prelude.{◌≡◌, ℕ, Bool, false, List, Vec, [], map}
+use Rattle.std.specs.Prelude.{◌≡◌, ℕ, Bool, false, List, Vec, [], All, IsTrue, map, flat_map}
 use Rattle.std.specs.declared.alloc.Global.{Global}
 use Rattle.work_shares.specs.declared.block.Block.{Block}
 use Rattle.work_shares.specs.declared.share.Share.{Share}
 use Rattle.work_shares.specs.declared.settling.Settled.{Settled}
 use Rattle.work_shares.specs.declared.entry.Entry.{Entry}
 use Rattle.work_shares.specs.Cuts.{block_count}
+use Rattle.work_shares.specs.Blocks.{extents_of}
 use Rattle.work_shares.specs.Entries.{entries_of}
 use Rattle.work_shares.specs.Seats.{own_view, place_of_seat, seat_left, HasOwnMark}
 use Rattle.work_shares.specs.Places.{Place, ArePlaces}
@@ -52,9 +53,17 @@ module _ {L : Type 0} where
   abbrev pub AreDeal : ℕ → ℕ → List (Share L) → Type 0
   AreDeal total block shares = ArePlaces total block (map place_of shares)
 
+  -- a call for a block was answered by none at each share
+  abbrev pub AreEnded : List (Share L) → Type 0
+  AreEnded shares = All (λ s. IsTrue (is_ended s)) shares
+
   -- the blocks of each worker, in the order in which they were taken
   abbrev pub blocks_of : Settled L → List (List Block)
   blocks_of s = map (λ (own : Vec Block Global). own.items) s.notes.items
+
+  -- the blocks of all workers
+  abbrev pub all_blocks : Settled L → List (ℕ × ℕ)
+  all_blocks s = flat_map extents_of (blocks_of s)
 
   -- the load of each worker
   abbrev pub loads_of : Settled L → List L
