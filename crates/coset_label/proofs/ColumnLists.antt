@@ -1,19 +1,12 @@
 -- The columns of a table as lists of numbers.
-use Rattle.std.proofs.Common.{◌≡◌, ℕ, zero, suc, ◌+◌, ◌^◌, ◌<◌, ◌≤◌, Bool, true, false, ◌∷◌, refl, ap, sym, ◌∙◌, inl, inr, arith}
-use Rattle.std.specs.Prelude.{neg_ℤ}
+use Rattle.std.proofs.Common.{◌≡◌, ℕ, zero, suc, ◌+◌, ◌^◌, ◌<◌, ◌≤◌, Bool, ◌∷◌, refl, ap, sym, ◌∙◌, inl, inr, arith}
 use Rattle.std.proofs.lemmas.Bool.{cases_eq}
-use Rattle.tc_ring.specs.Surds.{Surd, surd_negative}
+use Rattle.tc_ring.specs.Surds.{Surd}
 use Rattle.tc_ring.proofs.Surds.{same_surd}
 use Rattle.channel_rep.specs.Tables.{SurdTable, signed, turned_over}
 use Rattle.coset_label.specs.Labels.{numbers_from, column_of, leads_negative, with_fixed_sign}
-use Rattle.coset_label.proofs.FixedSigns.{turned, with_fixed_sign-turned, same_up_to_sign}
-
--- a column's numbers change sign with its cells
-turned-numbers : (b : Bool) (cell : ℕ → Surd) (row count : ℕ) → turned b (numbers_from cell row count) ≡ numbers_from (λ r. signed b (cell r)) row count
-unfolding signed surd_negative
-turned-numbers true cell row zero = refl
-turned-numbers true cell row (suc count) = ap (λ xs. neg_ℤ (cell row).a ∷ neg_ℤ (cell row).b ∷ xs) (turned-numbers true cell (row + 1) count)
-turned-numbers false cell row count = refl
+use Rattle.coset_label.proofs.TurnedColumns.{turned_numbers}
+use Rattle.coset_label.proofs.FixedSigns.{with_fixed_sign-turned, same_up_to_sign}
 
 -- equal cells have equal numbers
 numbers_of_cells : (cell other : ℕ → Surd) (row count : ℕ) → ((r : ℕ) → r < row + count → cell r ≡ other r) → numbers_from cell row count ≡ numbers_from other row count
@@ -38,7 +31,7 @@ module _ (n : ℕ) (a : SurdTable) (c : ℕ) (b : SurdTable) (d : ℕ) where
   -- such columns are one once their signs are fixed
   pub one_fixed : AgreeUpToSign n a c b d → with_fixed_sign (column_of n a c) ≡ with_fixed_sign (column_of n b d)
   one_fixed agree =
-      ap with_fixed_sign (numbers_of_cells _ _ 0 (4 ^ n) (λ r l. agree.cells r (omega arith)) ∙ sym (turned-numbers agree.negative (λ row. b row d) 0 (4 ^ n)))
+      ap with_fixed_sign (numbers_of_cells _ _ 0 (4 ^ n) (λ r l. agree.cells r (omega arith)) ∙ sym (turned_numbers agree.negative (λ row. b row d) 0 (4 ^ n)))
       ∙ with_fixed_sign-turned agree.negative (column_of n b d)
 
   -- and only such columns are
@@ -46,7 +39,7 @@ module _ (n : ℕ) (a : SurdTable) (c : ℕ) (b : SurdTable) (d : ℕ) where
   agree_where_fixed e =
       record {
         negative = sign;
-        cells = λ row l. cells_of_numbers _ _ 0 (4 ^ n) (same_up_to_sign (column_of n a c) (column_of n b d) e ∙ turned-numbers sign (λ row. b row d) 0 (4 ^ n)) row (omega arith) (omega arith);
+        cells = λ row l. cells_of_numbers _ _ 0 (4 ^ n) (same_up_to_sign (column_of n a c) (column_of n b d) e ∙ turned_numbers sign (λ row. b row d) 0 (4 ^ n)) row (omega arith) (omega arith);
       }
     where
       sign : Bool

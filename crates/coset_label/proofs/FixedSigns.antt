@@ -1,13 +1,10 @@
 -- Columns with a fixed sign: a column has the same one as its negative, and as no other column.
 use Rattle.std.proofs.Common.{◌≡◌, Bool, true, false, not, [], ◌∷◌, refl, ap, sym, ◌∙◌, inl, inr}
-use Rattle.std.specs.Prelude.{zero, suc, ◌⊎◌, pos, negsuc, neg_ℤ, map, if◌then◌else◌}
+use Rattle.std.specs.Prelude.{zero, suc, ◌⊎◌, pos, negsuc, neg_ℤ, map}
 use Rattle.std.proofs.Math.IntN.{neg_ℤ-neg_ℤ}
 use Rattle.channel_rep.specs.Tables.{turned_over}
 use Rattle.coset_label.specs.Labels.{Column, leads_negative, with_fixed_sign}
-
--- the column, or its negative
-abbrev pub turned : Bool → Column → Column
-turned negative column = if negative then map neg_ℤ column else column
+use Rattle.coset_label.specs.Scratch.{turned_column}
 
 -- the negative of the negative
 negative-twice : (column : Column) → map neg_ℤ (map neg_ℤ column) ≡ column
@@ -15,13 +12,13 @@ negative-twice [] = refl
 negative-twice (x ∷ xs) = λ i. neg_ℤ-neg_ℤ x i ∷ negative-twice xs i
 
 -- two signs are one
-turned-turned : (b d : Bool) (column : Column) → turned b (turned d column) ≡ turned (turned_over b d) column
+turned-turned : (b d : Bool) (column : Column) → turned_column b (turned_column d column) ≡ turned_column (turned_over b d) column
 turned-turned true true column = negative-twice column
 turned-turned true false column = refl
 turned-turned false d column = refl
 
 -- a sign taken twice
-turned-twice : (b : Bool) (column : Column) → turned b (turned b column) ≡ column
+turned-twice : (b : Bool) (column : Column) → turned_column b (turned_column b column) ≡ column
 turned-twice true column = negative-twice column
 turned-twice false column = refl
 
@@ -35,19 +32,19 @@ negative_leads (negsuc _ ∷ xs) = inl refl
 -- a column and its negative have one fixed sign
 with_fixed_sign-negative : (column : Column) → with_fixed_sign (map neg_ℤ column) ≡ with_fixed_sign column
 with_fixed_sign-negative column = elim (negative_leads column) [
-  | inl e ↦ ap (λ b. turned b (map neg_ℤ column)) e ∙ other_way (leads_negative column)
+  | inl e ↦ ap (λ b. turned_column b (map neg_ℤ column)) e ∙ other_way (leads_negative column)
   | inr e ↦ ap with_fixed_sign e
 ]
   where
-    other_way : (b : Bool) → turned (not b) (map neg_ℤ column) ≡ turned b column
+    other_way : (b : Bool) → turned_column (not b) (map neg_ℤ column) ≡ turned_column b column
     other_way true = refl
     other_way false = negative-twice column
 
 -- whatever the sign
-pub with_fixed_sign-turned : (b : Bool) (column : Column) → with_fixed_sign (turned b column) ≡ with_fixed_sign column
+pub with_fixed_sign-turned : (b : Bool) (column : Column) → with_fixed_sign (turned_column b column) ≡ with_fixed_sign column
 with_fixed_sign-turned true column = with_fixed_sign-negative column
 with_fixed_sign-turned false column = refl
 
 -- columns with one fixed sign are equal up to sign
-pub same_up_to_sign : (c d : Column) → with_fixed_sign c ≡ with_fixed_sign d → c ≡ turned (turned_over (leads_negative c) (leads_negative d)) d
-same_up_to_sign c d e = sym (turned-twice (leads_negative c) c) ∙ ap (turned (leads_negative c)) e ∙ turned-turned (leads_negative c) (leads_negative d) d
+pub same_up_to_sign : (c d : Column) → with_fixed_sign c ≡ with_fixed_sign d → c ≡ turned_column (turned_over (leads_negative c) (leads_negative d)) d
+same_up_to_sign c d e = sym (turned-twice (leads_negative c) c) ∙ ap (turned_column (leads_negative c)) e ∙ turned-turned (leads_negative c) (leads_negative d) d

@@ -15,7 +15,3 @@ turned_numbers true cell row count = all cell row count
     all : (cell : ℕ → Surd) (row count : ℕ) → map neg_ℤ (numbers_from cell row count) ≡ numbers_from (λ r. surd_negative (cell r)) row count
     all cell row zero = refl
     all cell row (suc count) = λ i. neg_ℤ (cell row).a ∷ neg_ℤ (cell row).b ∷ all cell (row + 1) count i
-
--- numbers of equal cells are equal
-pub same_numbers : (f g : ℕ → Surd) (row count : ℕ) → ((r : ℕ) → f r ≡ g r) → numbers_from f row count ≡ numbers_from g row count
-same_numbers f g row count e = λ i. numbers_from (λ r. e r i) row count
