@@ -1,8 +1,9 @@
 //! Work cut into blocks of positions, dealt to workers and stolen between them.
 //!
 //! `deal` cuts the positions below a total into blocks and puts each block into the deque of one worker. Each worker then
-//! takes blocks by `Share::next`, from any thread: those of its own deque first, and then those that it can steal. Once
-//! every share has ended, `settle` shows which worker was given which blocks, and these are the dealt blocks, each once.
+//! takes blocks by `Share::next`, from any thread: those of its own deque first, and then those that it can steal. `settle`
+//! shows which worker was given which blocks: at any time no block was given twice, and once every share has ended these are
+//! the dealt blocks, each once.
 //!
 //! No call waits for another thread. What keeps the blocks apart is the rule of one deque: what was taken from it and
 //! what it still holds is what was pushed, and each entry that was taken is known to just one of those who may take.

@@ -33,7 +33,6 @@ impl<L> Share<L> {
         ensures given { given_to self.new ≡ given_to self.old }
         ensures load { self.new.load ≡ self.old.load }
         ensures ended { is_ended self.new ≡ is_none result || is_ended self.old }
-
         ensures noted { IfSome result (λ block. noted_by self.new ≡ noted_by self.old ++ block ∷ []) }
         ensures apart { AreApart (place_of self.old).total (place_of self.old).size (extents_of (noted_by self.new)) }
         ensures dealt { IfSome result (λ block. Contains (dealt (place_of self.old).total (place_of self.old).size) (extent_of block)) }
