@@ -94,7 +94,7 @@ module _ {L : Type 0} (total size workers : ℕ) where
         sum_by-cons (λ (own : Vec Theft Global). sum_by (got_by w) own.items) (thefts_of s) (map thefts_of ss),
       )
 
--- the owners of a deal's shares learnt this, with all thefts taken back
+-- the owners of a deal's shares took all thefts back, and learnt what they got
 pub record Settling {L : Type 0} (total size : ℕ) (shares : List (Share L)) (new : List Owner) : Type 0 where
   pub deal : AreDeal total size shares
   pub pushed : map pushed_of new ≡ map pushed_of (map own_of shares)
@@ -102,6 +102,10 @@ pub record Settling {L : Type 0} (total size : ℕ) (shares : List (Share L)) (n
   pub learnt : All (λ o. Learnt (worker_view o) []) new
 
 module _ {L : Type 0} (total size : ℕ) (shares : List (Share L)) (new : List Owner) (s : Settling total size shares new) where
+  -- there are as many owners as shares
+  wide : length new ≡ length shares
+  wide = sym (length-map new pushed_of) ∙ ap length s.pushed ∙ length-map (map own_of shares) pushed_of ∙ length-map shares own_of
+
   -- each share stands at its place
   stand_all : StandFrom total size (length shares) 0 shares
   stand_all k t e = let at = place_at total size shares s.deal k t e in (at.0, at.1, at.2, (let n = at.3 in omega arith))
@@ -113,7 +117,6 @@ module _ {L : Type 0} (total size : ℕ) (shares : List (Share L)) (new : List O
       let count = block_count total size in
       let h : ℕ → ℕ = λ number. weight (block_at total size number) in
       let some : 0 < length shares = (let t = s.deal.some in omega (arith, length-map shares place_of)) in
-      let wide : length new ≡ length shares = sym (length-map new pushed_of) ∙ ap length s.pushed ∙ length-map (map own_of shares) pushed_of ∙ length-map shares own_of in
       sum_by-mapped weight (block_at total size) (range_with_len 0 count)
       ∙ sym (sum_by-numbers_of h count (length shares) some)
       ∙ ap (λ n. sum_by (λ d. sum_by h (numbers_of count (length shares) d)) (range_with_len 0 n)) (sym wide)
@@ -123,7 +126,6 @@ module _ {L : Type 0} (total size : ℕ) (shares : List (Share L)) (new : List O
       × (All HasMark new → sum_by weight (dealt total size) ≡ sum_by weight (flat_map extents_of (map noted_by shares)))
   noted_weigh weight =
       let w : Entry → ℕ = weight_of weight total size in
-      let wide : length new ≡ length shares = sym (length-map new pushed_of) ∙ ap length s.pushed ∙ length-map (map own_of shares) pushed_of ∙ length-map shares own_of in
       let pushed = s.pushed ∙ pushed_from total size (length shares) 0 shares stand_all ∙ ap (λ n. map (entries_of (block_count total size) (length shares)) (range_with_len 0 n)) (sym wide) in
       let got = got_owners w (block_count total size) (length shares) 0 new pushed s.learnt refl in
       let noted = noted_from total size (length shares) weight 0 shares stand_all in

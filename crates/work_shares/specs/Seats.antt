@@ -12,6 +12,7 @@ use Rattle.work_shares.specs.Rule.{GotApart}
 use Rattle.work_shares.specs.Gives.{Gives, weighed, given}
 use Rattle.work_shares.specs.Thefts.{deque_into, pushed_into, got_by, left_into, entries_after}
 use Rattle.work_shares.specs.Places.{Place}
+use Rattle.work_shares.specs.Owners.{HasMark}
 
 -- what a seat knows of its own deque
 abbrev pub own_view : Seat → View
@@ -29,7 +30,7 @@ place_of_seat s = record {
 
 -- the seat has taken an end mark from its own deque, behind which no block stands
 abbrev pub HasOwnMark : Seat → Type 0
-HasOwnMark s = 0 < ends (own_view s).got
+HasOwnMark s = HasMark s.own
 
 -- how many blocks the deal has
 abbrev pub count_of : Seat → ℕ
