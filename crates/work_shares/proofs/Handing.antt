@@ -4,9 +4,11 @@ use Rattle.std.proofs.lemmas.List.{length-map, map-append, nil_from_length}
 use Rattle.std.proofs.lemmas.List.Elements.{All-push, All-nil}
 use Rattle.work_shares.specs.declared.theft.Theft.{Theft}
 use Rattle.work_shares.specs.declared.share.Share.{Share}
+use Rattle.work_shares.specs.Cuts.{block_count}
+use Rattle.work_shares.specs.Entries.{entries_of}
 use Rattle.work_shares.specs.Thefts.{DequeId, deque_into}
 use Rattle.work_shares.specs.Places.{Place}
-use Rattle.work_shares.specs.Owners.{Owner, deque_of, LeadOn, IsFilled, AreFilled, IsReady}
+use Rattle.work_shares.specs.Owners.{Owner, deque_of, pushed_of, LeadOn, IsFilled, AreFilled, IsReady}
 use Rattle.work_shares.specs.Lending.{AreGiven}
 use Rattle.work_shares.specs.Shares.{place_of, load_of, IsFresh, AreDeal}
 use Rattle.work_shares.proofs.LendingOne.{slice_get-pushed}
@@ -75,7 +77,7 @@ module _ {L : Type 0} (total size count workers : ℕ) (deques : List DequeId) (
 
   -- what is made of the first of each
   pub record IsMade (worker : ℕ) (own : Owner) (thefts : Vec Theft Global) (load : L) (s : Share L) : Type 0 where
-    pub place : place_of s ≡ record { total = total; size = size; workers = workers; worker = worker; deque = deque_of own; others = map deque_into thefts.items }
+    pub place : place_of s ≡ record { total = total; size = size; workers = workers; worker = worker; deque = deque_of own; given = pushed_of own; others = map deque_into thefts.items }
     pub fresh : IsFresh s
     pub load_is : s.load ≡ load
 
@@ -119,6 +121,14 @@ module _ {L : Type 0} (total size count workers : ℕ) (deques : List DequeId) (
             (slice_get-pushed shares s k x (ap (λ y. slice_get y k) (sym is) ∙ e));
       }
 
+  -- what a share's deque was given
+  given_at : (worker : ℕ) (s : Share L) → IsPlaced total size workers worker deques s → (place_of s).given ≡ entries_of (block_count total size) workers worker
+  given_at worker s at = s.seated.stands.own
+      ∙ ap (λ t. entries_of (block_count t s.seat.cut.size) s.seat.workers s.seat.worker) at.total_is
+      ∙ ap (λ z. entries_of (block_count total z) s.seat.workers s.seat.worker) at.size_is
+      ∙ ap (λ w. entries_of (block_count total size) w s.seat.worker) at.workers_is
+      ∙ ap (entries_of (block_count total size) workers) at.worker_is
+
   -- all shares are made
   pub sharing_ends : (owners : List Owner) (thefts : List (Vec Theft Global)) (loads : List L) (shares : List (Share L)) → 0 < workers → workers ≤ 8 → IsSharing workers owners thefts loads shares → AreDeal total size shares
   sharing_ends owners thefts loads shares some few h =
@@ -137,6 +147,7 @@ module _ {L : Type 0} (total size count workers : ℕ) (deques : List DequeId) (
               ap (λ (q : Place). q.size) (sym is) ∙ at.size_is,
               ap (λ (q : Place). q.workers) (sym is) ∙ at.workers_is ∙ sym wide,
               ap (λ (q : Place). q.worker) (sym is) ∙ at.worker_is,
+              ap (λ (q : Place). q.given) (sym is) ∙ given_at j f.0 at ∙ ap (λ w. entries_of (block_count total size) w j) (sym wide),
             ));
         others = λ i j p d e other. (
             let f = slice_get-mapped place_of shares j p e in

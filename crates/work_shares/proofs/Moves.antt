@@ -39,7 +39,7 @@ standing-own number s t h m =
 
 -- a try at the own deque keeps the place
 place-own : (number : Option ℕ) (s t : Seat) → TakesOwn number s t → place_of_seat t ≡ place_of_seat s
-place-own number s t m = ap place_of_seat m.rest ∙ rw m.deque refl
+place-own number s t m = ap place_of_seat m.rest ∙ rw (m.deque, m.gives.pushed) refl
 
 -- the seat got the block of a number from its own deque, or none
 pub takes-own : (number : Option ℕ) (s t : Seat) → IsStanding s → TakesOwn number s t → Takes number s t

@@ -5,7 +5,7 @@ use Rattle.std.proofs.lemmas.List.Sums.{sum_by-cons}
 use Rattle.work_shares.specs.declared.entry.Entry.{Entry}
 use Rattle.work_shares.specs.declared.theft.Theft.{Theft}
 use Rattle.work_shares.specs.declared.seat.Seat.{Seat}
-use Rattle.work_shares.specs.Cuts.{block_at, dealt, AreApart}
+use Rattle.work_shares.specs.Cuts.{block_at, dealt, IsPartOf}
 use Rattle.work_shares.specs.Blocks.{extents_of}
 use Rattle.work_shares.specs.Entries.{weight_of}
 use Rattle.work_shares.specs.Thefts.{pushed_into, got_by}
@@ -37,5 +37,5 @@ noted_le s h weight =
     )
 
 -- the blocks that the seat noted are dealt ones, none twice
-pub noted_apart : (s : Seat) → IsSeated s → AreApart s.cut.total s.cut.size (extents_of s.noted.items)
+pub noted_apart : (s : Seat) → IsSeated s → IsPartOf (extents_of s.noted.items) (dealt s.cut.total s.cut.size)
 noted_apart s h = part_of same_pair tells_pairs (extents_of s.noted.items) (dealt s.cut.total s.cut.size) (noted_le s h)

@@ -8,7 +8,7 @@ use Rattle.work_shares.specs.declared.share.Share.{Share}
 use Rattle.work_shares.specs.declared.theft.Theft.{Theft}
 use Rattle.work_shares.specs.declared.entry.Entry.{Entry}
 use Rattle.work_shares.specs.declared.entry.Entry.TheVariants.{Work, End}
-use Rattle.work_shares.specs.Cuts.{block_at, block_count, dealt, numbers_of, AreApart}
+use Rattle.work_shares.specs.Cuts.{block_at, block_count, dealt, numbers_of, IsPartOf}
 use Rattle.work_shares.specs.Blocks.{extents_of}
 use Rattle.work_shares.specs.Entries.{weight_of, entries_of}
 use Rattle.work_shares.specs.Rule.{Learnt}
@@ -57,6 +57,7 @@ got_owners weight count workers first (o ∷ os) pushed learnt none =
 -- a share stands at its place in a deal of these numbers
 abbrev StandsAt : {L : Type 0} → ℕ → ℕ → ℕ → ℕ → Share L → Type 0
 StandsAt total size workers worker s = ((place_of s).total ≡ total) × ((place_of s).size ≡ size) × ((place_of s).workers ≡ workers) × ((place_of s).worker ≡ worker)
+    × ((place_of s).given ≡ entries_of (block_count total size) workers worker)
 
 module _ {L : Type 0} (total size workers : ℕ) where
   -- the shares from one on stand at their places
@@ -65,17 +66,13 @@ module _ {L : Type 0} (total size workers : ℕ) where
 
   -- the shares behind the first one
   rest_stands : (first : ℕ) (s : Share L) (ss : List (Share L)) → StandFrom first (s ∷ ss) → StandFrom (first + 1) ss
-  rest_stands first s ss h k t e = let f = h (suc k) t e in (f.0, f.1, f.2, (let n = f.3 in omega arith))
+  rest_stands first s ss h k t e = let f = h (suc k) t e in let on : first + suc k ≡ first + 1 + k = omega arith in (f.0, f.1, f.2, f.3 ∙ on, f.4 ∙ ap (entries_of (block_count total size) workers) on)
 
   -- what their deques were given
   pushed_from : (first : ℕ) (shares : List (Share L)) → StandFrom first shares → map pushed_of (map own_of shares) ≡ map (entries_of (block_count total size) workers) (range_with_len first (length shares))
   pushed_from first [] h = refl
   pushed_from first (s ∷ ss) h =
-      let at = h 0 s refl in
-      let count : block_count s.seat.cut.total s.seat.cut.size ≡ block_count total size = ap (λ t. block_count t s.seat.cut.size) at.0 ∙ ap (block_count total) at.1 in
-      let worker : s.seat.worker ≡ first = (let n = at.3 in omega arith) in
-      let own : pushed_of (own_of s) ≡ entries_of (block_count total size) workers first = s.seated.stands.own
-      ∙ ap (λ n. entries_of n s.seat.workers s.seat.worker) count ∙ ap (λ n. entries_of (block_count total size) n s.seat.worker) at.2 ∙ ap (entries_of (block_count total size) workers) worker in
+      let own : pushed_of (own_of s) ≡ entries_of (block_count total size) workers first = (h 0 s refl).4 ∙ ap (entries_of (block_count total size) workers) (let z : first + 0 ≡ first = omega arith in z) in
       ap (λ (l : List Entry). l ∷ map pushed_of (map own_of ss)) own ∙ ap (λ l. entries_of (block_count total size) workers first ∷ l) (pushed_from (first + 1) ss (rest_stands first s ss h))
 
   -- what they noted is what their owners and thefts got
@@ -108,7 +105,7 @@ module _ {L : Type 0} (total size : ℕ) (shares : List (Share L)) (new : List O
 
   -- each share stands at its place
   stand_all : StandFrom total size (length shares) 0 shares
-  stand_all k t e = let at = place_at total size shares s.deal k t e in (at.0, at.1, at.2, (let n = at.3 in omega arith))
+  stand_all k t e = let at = place_at total size shares s.deal k t e in let on : k ≡ 0 + k = omega arith in (at.0, at.1, at.2, at.3 ∙ on, at.4 ∙ ap (entries_of (block_count total size) (length shares)) on)
 
   -- what the dealt blocks weigh, by the deques that they went into
   dealt_weigh : (weight : ℕ × ℕ → ℕ) → sum_by weight (dealt total size) ≡ sum_by (blocks_weigh (weight_of weight total size) (block_count total size) (length shares)) (range_with_len 0 (length new))
@@ -132,7 +129,7 @@ module _ {L : Type 0} (total size : ℕ) (shares : List (Share L)) (new : List O
       (omega (arith, got.0, s.got w, noted, dealt_weigh weight), λ marked. omega (arith, got.1 marked, s.got w, noted, dealt_weigh weight))
 
   -- no block was noted twice
-  pub apart_dealt : AreApart total size (flat_map extents_of (map noted_by shares))
+  pub apart_dealt : IsPartOf (flat_map extents_of (map noted_by shares)) (dealt total size)
   apart_dealt = part_of same_pair tells_pairs (flat_map extents_of (map noted_by shares)) (dealt total size) (λ weight. (noted_weigh weight).0)
 
   -- where all owners have end marks, each dealt block was noted once

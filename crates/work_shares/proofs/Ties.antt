@@ -7,6 +7,7 @@ use Rattle.std.proofs.lemmas.List.FromFn.{length-map-range_with_len}
 use Rattle.work_shares.specs.declared.share.Share.{Share}
 use Rattle.work_shares.specs.declared.theft.Theft.{Theft}
 use Rattle.work_shares.specs.declared.entry.Entry.{Entry}
+use Rattle.work_shares.specs.Cuts.{block_count}
 use Rattle.work_shares.specs.Thefts.{deque_into, pushed_into, entries_after}
 use Rattle.work_shares.specs.Ways.{ways_from}
 use Rattle.work_shares.specs.Entries.{entries_of}
@@ -35,9 +36,10 @@ module _ {L : Type 0} where
   -- the place of the share at an index
   pub place_at : (total size : ℕ) (shares : List (Share L)) → AreDeal total size shares → (k : ℕ) (s : Share L) → slice_get shares k ≡ Some s
       → ((place_of s).total ≡ total) × ((place_of s).size ≡ size) × ((place_of s).workers ≡ length shares) × ((place_of s).worker ≡ k)
+      × ((place_of s).given ≡ entries_of (block_count total size) (length shares) k)
   place_at total size shares deal k s e =
       let at = deal.each k (place_of s) (slice_get-map_at place_of shares k s e) in
-      (at.0, at.1, at.2 ∙ length-map shares place_of, at.3)
+      (at.0, at.1, at.2 ∙ length-map shares place_of, at.3, at.4 ∙ ap (λ w. entries_of (block_count total size) w k) (length-map shares place_of))
 
   -- the deques of the places are those of the owners
   deques_same : (shares : List (Share L)) → map (λ (q : Place). q.deque) (map place_of shares) ≡ map deque_of (map own_of shares)

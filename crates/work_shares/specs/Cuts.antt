@@ -15,14 +15,18 @@ block_at total size number = (number * size, min size (total - number * size))
 unfoldable pub dealt : ℕ → ℕ → List (ℕ × ℕ)
 dealt total size = map (block_at total size) (range_with_len 0 (block_count total size))
 
--- some of the dealt blocks, none more than once: with those that are left they are the dealt blocks
-abbrev pub AreApart : ℕ → ℕ → List (ℕ × ℕ) → Type 0
-AreApart total size blocks = (left : List (ℕ × ℕ)) × IsPermutation (dealt total size) (blocks ++ left)
+-- the numbers of the blocks that go into a worker's deque: those with the worker's number modulo the workers
+unfoldable pub numbers_of : ℕ → ℕ → ℕ → List ℕ
+numbers_of count workers worker = filter (λ number. number % workers == worker) (range_with_len 0 count)
+
+-- the blocks that go into a worker's deque, in rising order
+abbrev pub blocks_for : ℕ → ℕ → ℕ → ℕ → List (ℕ × ℕ)
+blocks_for total size workers worker = map (block_at total size) (numbers_of (block_count total size) workers worker)
+
+-- the blocks are some of the whole, in any order, none more often than there: with those that are left they are the whole
+abbrev pub IsPartOf : List (ℕ × ℕ) → List (ℕ × ℕ) → Type 0
+IsPartOf blocks whole = (left : List (ℕ × ℕ)) × IsPermutation whole (blocks ++ left)
 
 -- the positions of a block, in rising order
 abbrev pub positions_of : ℕ × ℕ → List ℕ
 positions_of block = range_with_len block.0 block.1
-
--- the numbers of the blocks that go into a worker's deque: those with the worker's number modulo the workers
-unfoldable pub numbers_of : ℕ → ℕ → ℕ → List ℕ
-numbers_of count workers worker = filter (λ number. number % workers == worker) (range_with_len 0 count)

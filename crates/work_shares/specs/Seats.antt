@@ -25,6 +25,7 @@ place_of_seat s = record {
   workers = s.workers;
   worker = s.worker;
   deque = worker_deque s.own;
+  given = (own_view s).pushed;
   others = map deque_into s.thefts.items;
 }
 

@@ -4,25 +4,14 @@ use Rattle.std.specs.declared.alloc.Global.{Global}
 use Rattle.work_shares.specs.declared.block.Block.{Block}
 use Rattle.work_shares.specs.declared.share.Share.{Share}
 use Rattle.work_shares.specs.declared.settling.Settled.{Settled}
-use Rattle.work_shares.specs.declared.entry.Entry.{Entry}
-use Rattle.work_shares.specs.Cuts.{block_count}
 use Rattle.work_shares.specs.Blocks.{extents_of}
-use Rattle.work_shares.specs.Entries.{entries_of}
-use Rattle.work_shares.specs.Seats.{own_view, place_of_seat, seat_left, HasOwnMark}
+use Rattle.work_shares.specs.Seats.{place_of_seat, seat_left, HasOwnMark}
 use Rattle.work_shares.specs.Places.{Place, ArePlaces}
 
 module _ {L : Type 0} where
   -- where a share stands in its deal, which nothing changes
   abbrev pub place_of : Share L → Place
   place_of s = place_of_seat s.seat
-
-  -- what its deque was given
-  abbrev pub given_to : Share L → List Entry
-  given_to s = (own_view s.seat).pushed
-
-  -- its deque was given what a deal puts there: the numbers of the worker's blocks, and the end marks behind them
-  abbrev pub IsGivenItsOwn : Share L → Type 0
-  IsGivenItsOwn s = given_to s ≡ entries_of (block_count (place_of s).total (place_of s).size) (place_of s).workers (place_of s).worker
 
   -- the blocks that the share was given, in order
   abbrev pub noted_by : Share L → List Block

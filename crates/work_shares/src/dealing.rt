@@ -2,10 +2,10 @@
 ghost use Rattle.std.specs.Prelude.{◌≡◌, ℕ, ◌<◌, ◌≤◌, ◌/◌, ◌^◌, All, IfOk, Some, map, length, slice_get, vec_len};
 ghost use Rattle.work_shares.specs.Cuts.{block_count};
 ghost use Rattle.work_shares.specs.Thefts.{deque_into};
-ghost use Rattle.work_shares.specs.Owners.{deque_of, IsReady, LeadAllOn};
+ghost use Rattle.work_shares.specs.Owners.{deque_of, pushed_of, IsReady, LeadAllOn};
 ghost use Rattle.work_shares.specs.Lending.{AreGiven};
 ghost use Rattle.work_shares.specs.Parts.{IsEmpty, HasRoom};
-ghost use Rattle.work_shares.specs.Shares.{place_of, AreDeal, IsGivenItsOwn, IsFresh, load_of};
+ghost use Rattle.work_shares.specs.Shares.{place_of, AreDeal, IsFresh, load_of};
 
 use crate::block::Cut;
 use crate::deque::Owner;
@@ -42,7 +42,7 @@ fn share_at<L: Drop>(
     requires worker { (worker < workers) × (workers ≤ 8) }
     requires own { IsReady (block_count cut.total cut.size) workers worker own }
     requires thefts { AreGiven (block_count cut.total cut.size) workers worker thefts.items }
-    ensures place { IfOk result (λ share. place_of share ≡ record { total = cut.total; size = cut.size; workers = workers; worker = worker; deque = deque_of own; others = map deque_into thefts.items }) }
+    ensures place { IfOk result (λ share. place_of share ≡ record { total = cut.total; size = cut.size; workers = workers; worker = worker; deque = deque_of own; given = pushed_of own; others = map deque_into thefts.items }) }
     ensures fresh { IfOk result IsFresh }
     ensures load { IfOk result (λ share. share.load ≡ load) }
 {
@@ -108,7 +108,6 @@ pub fn deal<L: Drop>(
     requires workers { (0 < vec_len loads) × (vec_len loads ≤ 8) }
     requires few { total / block < 2 ^ 24 }
     ensures deal { IfOk result (λ shares. AreDeal total block shares.items) }
-    ensures given { IfOk result (λ shares. All IsGivenItsOwn shares.items) }
     ensures fresh { IfOk result (λ shares. All IsFresh shares.items) }
     ensures loads { IfOk result (λ shares. map load_of shares.items ≡ loads.items) }
 {

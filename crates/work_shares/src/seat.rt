@@ -39,7 +39,7 @@ fn steal_round(thefts: &mut Vec<Theft>) -> Option<u32>
 }
 
 impl Seat {
-    ghost use Rattle.work_shares.specs.Seats.{own_view, IsSeated, IsStanding, Takes, TakesOwn, HasOwnMark, place_of_seat, seat_left};
+    ghost use Rattle.work_shares.specs.Seats.{IsSeated, IsStanding, Takes, TakesOwn, HasOwnMark, place_of_seat, seat_left};
 
     // The number of the next block of its own deque, if there is one.
     fn take_own(&mut self) -> Option<u32>
@@ -86,7 +86,6 @@ impl Seat {
         requires { IsSeated self.old }
         ensures seated { IsSeated self.new }
         ensures place { place_of_seat self.new ≡ place_of_seat self.old }
-        ensures given { (own_view self.new).pushed ≡ (own_view self.old).pushed }
         ensures ended { self.new.ended ≡ is_none result || self.old.ended }
         ensures noted { IfSome result (λ block. self.new.noted.items ≡ self.old.noted.items ++ block ∷ []) }
         ensures dealt { IfSome result (λ block. Contains (dealt self.old.cut.total self.old.cut.size) (extent_of block)) }

@@ -1,7 +1,7 @@
 //! A deal taken apart.
 ghost use Rattle.std.specs.Prelude.{◌≡◌, ℕ, ◌<◌, Some, map, length, slice_get, flat_map, IfSome, vec_len, IsPermutation};
 ghost use Rattle.std.specs.List.{range_with_len};
-ghost use Rattle.work_shares.specs.Cuts.{dealt, positions_of, AreApart};
+ghost use Rattle.work_shares.specs.Cuts.{dealt, positions_of, IsPartOf};
 ghost use Rattle.work_shares.specs.Shares.{AreDeal, AreEnded, place_of, noted_by, load_of, blocks_of, all_blocks, loads_of};
 ghost use Rattle.work_shares.specs.Apart.{ArePartsOf};
 
@@ -46,7 +46,7 @@ pub fn settle<L>(shares: Vec<Share<L>>) -> Settled<L>
     requires { (total : ℕ) × ((block : ℕ) × AreDeal total block shares.items) }
     ensures blocks { blocks_of result ≡ map noted_by shares.items }
     ensures loads { loads_of result ≡ map load_of shares.items }
-    ensures apart { (total block : ℕ) → AreDeal total block shares.items → AreApart total block (all_blocks result) }
+    ensures apart { (total block : ℕ) → AreDeal total block shares.items → IsPartOf (all_blocks result) (dealt total block) }
     ensures once { (total block : ℕ) → AreDeal total block shares.items → AreEnded shares.items
         → IsPermutation (dealt total block) (all_blocks result) }
     ensures positions { (total block : ℕ) → AreDeal total block shares.items → AreEnded shares.items

@@ -1,6 +1,6 @@
 //! One worker's end of a deal.
 ghost use Rattle.std.specs.Prelude.{◌≡◌, ◌<◌, ◌++◌, ◌∷◌, [], ◌||◌, IfSome, IfNone, Contains, is_none};
-ghost use Rattle.work_shares.specs.Cuts.{dealt, AreApart};
+ghost use Rattle.work_shares.specs.Cuts.{dealt, IsPartOf};
 ghost use Rattle.work_shares.specs.Blocks.{extent_of, extents_of};
 ghost use Rattle.work_shares.specs.Seats.{IsSeated};
 ghost use Rattle.work_shares.specs.Parts.{IsEmpty, HasRoom};
@@ -22,19 +22,18 @@ pub struct Share<L> {
 }
 
 impl<L> Share<L> {
-    ghost use Rattle.work_shares.specs.Shares.{place_of, given_to, noted_by, is_ended, share_left, HasOwnEnd};
+    ghost use Rattle.work_shares.specs.Shares.{place_of, noted_by, is_ended, share_left, HasOwnEnd};
 
-    /// A block that no other `next` of this deal gives. `None` only once this share's own deque has no more blocks; those
-    /// that still lie in other deques are taken by their owners.
+    /// A block that no other `next` of this deal gives. `None` only once this share's own deque has no more blocks; others may
+    /// still lie in other deques.
     ///
     /// It never waits: at most two rounds of tries to steal.
     pub fn next(&mut self) -> Option<Block>
         ensures place { place_of self.new ≡ place_of self.old }
-        ensures given { given_to self.new ≡ given_to self.old }
         ensures load { self.new.load ≡ self.old.load }
         ensures ended { is_ended self.new ≡ is_none result || is_ended self.old }
         ensures noted { IfSome result (λ block. noted_by self.new ≡ noted_by self.old ++ block ∷ []) }
-        ensures apart { AreApart (place_of self.old).total (place_of self.old).size (extents_of (noted_by self.new)) }
+        ensures apart { IsPartOf (extents_of (noted_by self.new)) (dealt (place_of self.old).total (place_of self.old).size) }
         ensures dealt { IfSome result (λ block. Contains (dealt (place_of self.old).total (place_of self.old).size) (extent_of block)) }
         ensures fewer { IfSome result (λ _. share_left self.new < share_left self.old) }
         ensures none { IfNone result (noted_by self.new ≡ noted_by self.old) }

@@ -1,6 +1,6 @@
 use Rattle.std.proofs.Common.{rules, ◌≡◌, ◌<◌, ◌≤◌, ℕ, List, Vec, Global, slice_get, map, length, subst, sym, ap, refl, ◌∙◌, add-zero, arith}
 use Rattle.work_shares.specs.Cuts.{block_count}
-use Rattle.work_shares.specs.Owners.{deque_of, IsReady}
+use Rattle.work_shares.specs.Owners.{deque_of, pushed_of, IsReady}
 use Rattle.work_shares.specs.Lending.{AreGiven}
 use Rattle.work_shares.specs.declared.theft.Theft.{Theft}
 use Rattle.work_shares.specs.Thefts.{DequeId, deque_into}
@@ -9,8 +9,8 @@ use Rattle.work_shares.specs.Owners.{Owner}
 use Rattle.work_shares.proofs.Handing.{IsMade, IsSharing, sharing_starts, sharing_step, sharing_ends, first_rest}
 use Rattle.work_shares.proofs.dealing.shares_of.Goals as goal
 
-abbrev place_from : ℕ → ℕ → ℕ → ℕ → DequeId → List DequeId → Place
-place_from total size workers worker deque others = record { total = total; size = size; workers = workers; worker = worker; deque = deque; others = others }
+abbrev place_from : ℕ → ℕ → ℕ → ℕ → Owner → List DequeId → Place
+place_from total size workers worker own others = record { total = total; size = size; workers = workers; worker = worker; deque = deque_of own; given = pushed_of own; others = others }
 
 pub loop-worker-init : goal.loop-worker-init
 loop-worker-init g c =
@@ -58,7 +58,7 @@ loop-worker-preserved g c =
     let loads = first_rest c.loop-worker.loads.items c.remove-load.new.self.items c.remove-load.result some_load c.remove-load.ensures.value c.remove-load.ensures.items in
     let e = c.in_ok-share.ensures in
     let made : IsMade a.cut.total a.cut.size count (length a.loads.items) (map deque_of a.owners.items) a.loads.items c.loop-worker.worker c.remove-own.result c.remove-ways.result c.remove-load.result c.in_ok-share.share =
-    record { place = e.place ∙ ap (λ (w : ℕ). place_from a.cut.total a.cut.size w c.loop-worker.worker (deque_of c.remove-own.result) (map deque_into c.remove-ways.result.items)) wide; fresh = e.fresh; load_is = e.load } in (
+    record { place = e.place ∙ ap (λ (w : ℕ). place_from a.cut.total a.cut.size w c.loop-worker.worker c.remove-own.result (map deque_into c.remove-ways.result.items)) wide; fresh = e.fresh; load_is = e.load } in (
       sharing_step a.cut.total a.cut.size count (length a.loads.items) (map deque_of a.owners.items) a.loads.items c.loop-worker.worker c.loop-worker.owners.items c.remove-own.new.self.items c.loop-worker.thefts.items c.remove-ways.new.self.items
           c.loop-worker.loads.items c.remove-load.new.self.items c.loop-worker.shares.items c.push_reserved.new.self.items c.remove-own.result c.remove-ways.result c.remove-load.result c.in_ok-share.share
           owns ways loads c.push_reserved.ensures.items made i,

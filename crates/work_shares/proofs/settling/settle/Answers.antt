@@ -2,7 +2,7 @@ use Rattle.std.proofs.Common.{rules, ◌≡◌, ℕ, List, [], ◌∷◌, Vec, G
 use Rattle.work_shares.specs.declared.block.Block.{Block}
 use Rattle.work_shares.specs.declared.theft.Theft.{Theft}
 use Rattle.work_shares.specs.declared.share.Share.{Share}
-use Rattle.work_shares.specs.Cuts.{dealt, AreApart}
+use Rattle.work_shares.specs.Cuts.{dealt, IsPartOf}
 use Rattle.work_shares.specs.Blocks.{extents_of}
 use Rattle.work_shares.specs.Owners.{Owner, deque_of, LeadAllOn, IsLive, HasMark, TookBack}
 use Rattle.work_shares.specs.Ways.{ways_from}
@@ -78,7 +78,7 @@ pub returns-clause-apart : goal.returns-clause-apart
 returns-clause-apart g c total block deal =
     let e = c.parted-owners.ensures in
     let s = settling total block c.args.shares.items _ c.take_back_all.new.owners.items _ e.owners e.thefts deal c.take_back_all.ensures.took c.learn_all.ensures.learnt in
-    subst (λ (l : List (List Block)). AreApart total block (flat_map extents_of l)) (sym (blocks_are c.args.shares.items c.parted-owners.result.notes.items e.notes)) (apart_dealt total block c.args.shares.items c.take_back_all.new.owners.items s)
+    subst (λ (l : List (List Block)). IsPartOf (flat_map extents_of l) (dealt total block)) (sym (blocks_are c.args.shares.items c.parted-owners.result.notes.items e.notes)) (apart_dealt total block c.args.shares.items c.take_back_all.new.owners.items s)
 
 pub returns-clause-once : goal.returns-clause-once
 returns-clause-once g c total block deal ended =
