@@ -7,7 +7,7 @@ use Rattle.work_shares.specs.declared.entry.Entry.{Entry}
 use Rattle.work_shares.specs.declared.theft.Theft.{Theft}
 use Rattle.work_shares.specs.Thefts.{DequeId, got_by}
 use Rattle.work_shares.specs.Ways.{ways_of, ways_from}
-use Rattle.work_shares.specs.Owners.{Owner, deque_of, LeadOn, LeadAllOn, IsLive, HasMark, TookBack}
+use Rattle.work_shares.specs.Owners.{Owner, deque_of, LeadOn, LeadAllOn, IsLive, KeepMarks, TookBack}
 use Rattle.work_shares.proofs.Indexes.{slice_get-front, slice_get-last}
 use Rattle.work_shares.proofs.TakingBack.{Taking, taking_starts}
 
@@ -31,7 +31,7 @@ all_got weight thefts = sum_by (λ (own : Vec Theft Global). sum_by (got_by weig
 -- the owners may still take back the thefts of these workers
 pub record AreLeft (all : List (Vec Theft Global)) (old : List Owner) (rest : List (Vec Theft Global)) (now : List Owner) : Type 0 where
   pub live : All IsLive now
-  pub marked : All HasMark old → All HasMark now
+  pub marks : KeepMarks old now
   pub lead : LeadAllOn (map deque_of now) rest
   pub wide : length now ≡ length old
   pub short : length rest ≤ length old
@@ -40,7 +40,7 @@ pub record AreLeft (all : List (Vec Theft Global)) (old : List Owner) (rest : Li
 pub all_starts : (all : List (Vec Theft Global)) (old : List Owner) → All IsLive old → LeadAllOn (map deque_of old) all → length all ≡ length old → AreLeft all old all old
 all_starts all old live lead short = record {
   live = live;
-  marked = λ marks. marks;
+  marks = λ d. omega arith;
   lead = lead;
   wide = refl;
   short = omega arith;
@@ -63,8 +63,8 @@ last-leads deques rest done own n is long h = h n own (ap (slice_get rest) long 
 
 -- the thefts of the last worker are taken back
 pub all_step : (n : ℕ) (all : List (Vec Theft Global)) (old : List Owner) (rest : List (Vec Theft Global)) (now : List Owner) (done : List (Vec Theft Global)) (own : Vec Theft Global) (new : List Owner) → rest ≡ done ++ own ∷ [] → n ≡ length done
-    → All IsLive new → (All HasMark now → All HasMark new) → TookBack (λ d. ways_of (length now) d n (length own.items)) (λ weight. sum_by (got_by weight) own.items) now new → AreLeft all old rest now → AreLeft all old done new
-all_step n all old rest now done own new is long live marked t h =
+    → All IsLive new → KeepMarks now new → TookBack (λ d. ways_of (length now) d n (length own.items)) (λ weight. sum_by (got_by weight) own.items) now new → AreLeft all old rest now → AreLeft all old done new
+all_step n all old rest now done own new is long live marks t h =
     let same : length new ≡ length now = sym (length-map new deque_of) ∙ ap length t.deques ∙ length-map now deque_of in
     let more : length rest ≡ length done + 1 = ap length is ∙ length-append done (own ∷ []) in
     let short : length done ≤ length old = (let s = h.short in omega arith) in
@@ -76,7 +76,7 @@ all_step n all old rest now done own new is long live marked t h =
     ∙ ap (λ k. ways_of k d n (length own.items)) (sym h.wide)) in
     record {
       live = live;
-      marked = λ marks. marked (h.marked marks);
+      marks = λ d. omega (arith, h.marks d, marks d);
       lead = λ worker w e i d f. subst (λ (l : List DequeId). slice_get l ((worker + 1 + i) % length l) ≡ Some d) (sym t.deques)
           (h.lead worker w (ap (λ l. slice_get l worker) is ∙ slice_get-front done (own ∷ []) worker w e) i d f);
       wide = same ∙ h.wide;

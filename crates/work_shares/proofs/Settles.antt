@@ -1,20 +1,21 @@
 -- The blocks of all workers are dealt ones, none more than once; and all of them, once all shares have ended.
-use Rattle.std.proofs.Common.{◌≡◌, ℕ, suc, ◌+◌, ◌*◌, ◌<◌, ◌≤◌, List, Vec, Global, [], ◌∷◌, Some, All, IsPermutation, map, flat_map, length, slice_get, refl, sym, ap, ◌∙◌, arith}
+use Rattle.std.proofs.Common.{◌≡◌, ℕ, suc, ◌+◌, ◌*◌, ◌<◌, ◌≤◌, List, Vec, Global, [], ◌∷◌, Some, All, IsPermutation, map, flat_map, length, get_or, slice_get, refl, sym, ap, ◌∙◌, arith}
 use Rattle.std.specs.List.{sum_by, range_with_len}
-use Rattle.std.proofs.lemmas.List.{length-map}
-use Rattle.std.proofs.lemmas.List.Sums.{sum_by-cons, sum_by-append}
+use Rattle.std.proofs.lemmas.List.{length-map, get_or-map}
+use Rattle.std.proofs.lemmas.List.FromFn.{get_or-map-range_with_len}
+use Rattle.std.proofs.lemmas.List.Sums.{sum_by-cons, sum_by-append, get_or-le-sum_by}
 use Rattle.crossbeam_deque.specs.Handles.{worker_view}
 use Rattle.work_shares.specs.declared.share.Share.{Share}
 use Rattle.work_shares.specs.declared.theft.Theft.{Theft}
 use Rattle.work_shares.specs.declared.entry.Entry.{Entry}
 use Rattle.work_shares.specs.declared.entry.Entry.TheVariants.{Work, End}
-use Rattle.work_shares.specs.Cuts.{block_at, block_count, dealt, numbers_of, IsPartOf}
+use Rattle.work_shares.specs.Cuts.{block_at, block_count, dealt, numbers_of, blocks_for, IsPartOf}
 use Rattle.work_shares.specs.Blocks.{extents_of}
 use Rattle.work_shares.specs.Entries.{weight_of, entries_of}
 use Rattle.work_shares.specs.Rule.{Learnt}
 use Rattle.work_shares.specs.Thefts.{got_by}
 use Rattle.work_shares.specs.Seats.{seat_got}
-use Rattle.work_shares.specs.Owners.{Owner, pushed_of, owner_got, HasMark}
+use Rattle.work_shares.specs.Owners.{Owner, pushed_of, owner_got, marks_of, HasMark, KeepMarks}
 use Rattle.work_shares.specs.Shares.{place_of, noted_by, AreDeal}
 use Rattle.work_shares.specs.Apart.{own_of, thefts_of}
 use Rattle.work_shares.proofs.Counts.{sum_by-mapped, sum_by-numbers_of}
@@ -91,11 +92,16 @@ module _ {L : Type 0} (total size workers : ℕ) where
         sum_by-cons (λ (own : Vec Theft Global). sum_by (got_by w) own.items) (thefts_of s) (map thefts_of ss),
       )
 
+-- an end mark of an owner stays
+pub mark_stays : (old new : List Owner) (k : ℕ) (d : Owner) → KeepMarks old new → k < length old → k < length new → HasMark (get_or old k d) → HasMark (get_or new k d)
+mark_stays old new k d marks was now mark = omega (arith, get_or-map marks_of old k d 0 was, get_or-map marks_of new k d 0 now, marks k)
+
 -- the owners of a deal's shares took all thefts back, and learnt what they got
 pub record Settling {L : Type 0} (total size : ℕ) (shares : List (Share L)) (new : List Owner) : Type 0 where
   pub deal : AreDeal total size shares
   pub pushed : map pushed_of new ≡ map pushed_of (map own_of shares)
   pub got : (weight : Entry → ℕ) → sum_by (owner_got weight) new ≡ sum_by (owner_got weight) (map own_of shares) + all_got weight (map thefts_of shares)
+  pub marks : KeepMarks (map own_of shares) new
   pub learnt : All (λ o. Learnt (worker_view o) []) new
 
 module _ {L : Type 0} (total size : ℕ) (shares : List (Share L)) (new : List Owner) (s : Settling total size shares new) where
@@ -106,6 +112,10 @@ module _ {L : Type 0} (total size : ℕ) (shares : List (Share L)) (new : List O
   -- each share stands at its place
   stand_all : StandFrom total size (length shares) 0 shares
   stand_all k t e = let at = place_at total size shares s.deal k t e in let on : k ≡ 0 + k = omega arith in (at.0, at.1, at.2, at.3 ∙ on, at.4 ∙ ap (entries_of (block_count total size) (length shares)) on)
+
+  -- what the owners' deques were given
+  pushed_all : map pushed_of new ≡ map (entries_of (block_count total size) (length shares)) (range_with_len 0 (length new))
+  pushed_all = s.pushed ∙ pushed_from total size (length shares) 0 shares stand_all ∙ ap (λ n. map (entries_of (block_count total size) (length shares)) (range_with_len 0 n)) (sym wide)
 
   -- what the dealt blocks weigh, by the deques that they went into
   dealt_weigh : (weight : ℕ × ℕ → ℕ) → sum_by weight (dealt total size) ≡ sum_by (blocks_weigh (weight_of weight total size) (block_count total size) (length shares)) (range_with_len 0 (length new))
@@ -118,20 +128,36 @@ module _ {L : Type 0} (total size : ℕ) (shares : List (Share L)) (new : List O
       ∙ sym (sum_by-numbers_of h count (length shares) some)
       ∙ ap (λ n. sum_by (λ d. sum_by h (numbers_of count (length shares) d)) (range_with_len 0 n)) (sym wide)
 
-  -- the blocks that all workers noted weigh no more than those dealt, and as much where all owners have end marks
-  noted_weigh : (weight : ℕ × ℕ → ℕ) → (sum_by weight (flat_map extents_of (map noted_by shares)) ≤ sum_by weight (dealt total size))
-      × (All HasMark new → sum_by weight (dealt total size) ≡ sum_by weight (flat_map extents_of (map noted_by shares)))
-  noted_weigh weight =
-      let w : Entry → ℕ = weight_of weight total size in
-      let pushed = s.pushed ∙ pushed_from total size (length shares) 0 shares stand_all ∙ ap (λ n. map (entries_of (block_count total size) (length shares)) (range_with_len 0 n)) (sym wide) in
-      let got = got_owners w (block_count total size) (length shares) 0 new pushed s.learnt refl in
-      let noted = noted_from total size (length shares) weight 0 shares stand_all in
-      (omega (arith, got.0, s.got w, noted, dealt_weigh weight), λ marked. omega (arith, got.1 marked, s.got w, noted, dealt_weigh weight))
+  -- the blocks that all workers noted weigh what the owners have got
+  noted_weigh : (weight : ℕ × ℕ → ℕ) → sum_by weight (flat_map extents_of (map noted_by shares)) ≡ sum_by (owner_got (weight_of weight total size)) new
+  noted_weigh weight = noted_from total size (length shares) weight 0 shares stand_all ∙ sym (s.got (weight_of weight total size))
+
+  -- what the owners have got weighs no more than what was dealt, and as much where all have end marks
+  got_weigh : (weight : ℕ × ℕ → ℕ) → (sum_by (owner_got (weight_of weight total size)) new ≤ sum_by weight (dealt total size))
+      × (All HasMark new → sum_by (owner_got (weight_of weight total size)) new ≡ sum_by weight (dealt total size))
+  got_weigh weight =
+      let got = got_owners (weight_of weight total size) (block_count total size) (length shares) 0 new pushed_all s.learnt refl in
+      (omega (arith, got.0, dealt_weigh weight), λ marked. got.1 marked ∙ sym (dealt_weigh weight))
 
   -- no block was noted twice
   pub apart_dealt : IsPartOf (flat_map extents_of (map noted_by shares)) (dealt total size)
-  apart_dealt = part_of same_pair tells_pairs (flat_map extents_of (map noted_by shares)) (dealt total size) (λ weight. (noted_weigh weight).0)
+  apart_dealt = part_of same_pair tells_pairs (flat_map extents_of (map noted_by shares)) (dealt total size) (λ weight. omega (arith, noted_weigh weight, (got_weigh weight).0))
 
-  -- where all owners have end marks, each dealt block was noted once
-  pub once_dealt : All HasMark new → IsPermutation (dealt total size) (flat_map extents_of (map noted_by shares))
-  once_dealt marked = permuted same_pair tells_pairs (dealt total size) (flat_map extents_of (map noted_by shares)) (λ weight. (noted_weigh weight).1 marked)
+  -- where all shares' owners have end marks, each dealt block was noted once
+  pub once_dealt : All HasMark (map own_of shares) → IsPermutation (dealt total size) (flat_map extents_of (map noted_by shares))
+  once_dealt marked =
+      let all : All HasMark new = λ k d lt. (let was : k < length (map own_of shares) = omega (arith, wide, length-map shares own_of) in mark_stays (map own_of shares) new k d s.marks was lt (marked k d was)) in
+      permuted same_pair tells_pairs (dealt total size) (flat_map extents_of (map noted_by shares)) (λ weight. sym (noted_weigh weight ∙ (got_weigh weight).1 all))
+
+  -- where the owner of one deque has an end mark, each block of that deque was noted
+  pub own_noted : (k : ℕ) (o : Owner) → k < length shares → HasMark (get_or (map own_of shares) k o) → IsPartOf (blocks_for total size (length shares) k) (flat_map extents_of (map noted_by shares))
+  own_noted k o lt mark =
+      let count = block_count total size in
+      let below : k < length new = omega (arith, wide) in
+      let kept = mark_stays (map own_of shares) new k o s.marks (omega (arith, length-map shares own_of)) below mark in
+      let pushed : pushed_of (get_or new k o) ≡ entries_of count (length shares) k = sym (get_or-map pushed_of new k o [] below) ∙ ap (λ l. get_or l k []) pushed_all
+      ∙ get_or-map-range_with_len (entries_of count (length shares)) 0 (length new) k k [] below (omega arith) in
+      part_of same_pair tells_pairs (blocks_for total size (length shares) k) (flat_map extents_of (map noted_by shares)) (λ weight.
+      let w : Entry → ℕ = weight_of weight total size in
+      let own = (got_own w count (length shares) k (get_or new k o) pushed (s.learnt k o below) refl).1 kept in
+      omega (arith, sum_by-mapped weight (block_at total size) (numbers_of count (length shares) k), own, get_or-le-sum_by (owner_got w) new k o below, noted_weigh weight))

@@ -1,5 +1,5 @@
 -- What the owners take back, a theft at a time and a worker at a time.
-use Rattle.std.proofs.Common.{◌≡◌, ◌≢◌, ℕ, suc, ◌+◌, ◌%◌, ◌==◌, ◌<◌, ◌⊎◌, ⊎_elim, inl, inr, true, false, List, [], ◌∷◌, ◌++◌, Some, All, map, set, get_or, length, length-append, length-set, slice_get, slice_index, refl, sym, ap, ◌∙◌, subst, arith}
+use Rattle.std.proofs.Common.{◌≡◌, ◌≢◌, ℕ, suc, ◌+◌, ◌%◌, ◌==◌, ◌<◌, ◌≤◌, ◌⊎◌, ⊎_elim, inl, inr, true, false, List, [], ◌∷◌, ◌++◌, Some, All, map, set, get_or, length, length-append, length-set, slice_get, slice_index, refl, sym, ap, ◌∙◌, subst, arith}
 use Rattle.std.specs.List.{sum_by}
 use Rattle.std.proofs.lemmas.List.{map-set, map-append, get_or-map, get_or-set_same, get_or-set_other, length-map}
 use Rattle.std.proofs.lemmas.List.Sums.{sum_by-set, sum_by_push, sum_by-append}
@@ -13,7 +13,7 @@ use Rattle.work_shares.specs.declared.theft.Theft.{Theft}
 use Rattle.work_shares.specs.Entries.{view, is_end}
 use Rattle.work_shares.specs.Thefts.{DequeId, deque_into, view_into, got_by}
 use Rattle.work_shares.specs.Ways.{ways_of}
-use Rattle.work_shares.specs.Owners.{Owner, deque_of, parts_of, pushed_of, owner_got, LeadOn, IsLive, HasMark, TookBack}
+use Rattle.work_shares.specs.Owners.{Owner, deque_of, parts_of, pushed_of, owner_got, LeadOn, IsLive, marks_of, KeepMarks, TookBack}
 use Rattle.work_shares.proofs.Indexes.{slice_get-front, slice_get-last, get_or-mapped}
 
 -- so many parts are to come back in all, of which these are left, and the same for what was got
@@ -53,13 +53,26 @@ absorbs_got weight t o p a = ap (λ v. sum_by weight v.got) a.is ∙ sum_by-appe
 live_absorbs : (t : Theft) (o p : Owner) → IsLive o → Absorbs t o p → IsLive p
 live_absorbs t o p live a = let n = absorbs_parts t o p a in omega arith
 
--- an end mark stays
-marked_absorbs : (t : Theft) (o p : Owner) → HasMark o → Absorbs t o p → HasMark p
-marked_absorbs t o p marked a = let n = absorbs_got is_end t o p a in omega arith
-
 -- two numbers are equal or not
 same_or_other : (a b : ℕ) → (a ≡ b) ⊎ (a ≢ b)
 same_or_other a b = ⊎_elim (λ lt. inr (λ e. absurd (omega arith))) (λ le. ⊎_elim (λ lt. inr (λ e. absurd (omega arith))) (λ le'. inl (omega arith)) (cases_lt b a)) (cases_lt a b)
+
+-- one owner took a theft back, and none has fewer end marks than before
+marks_step : (now : List Owner) (at : ℕ) (t : Theft) (o p : Owner) → at < length now → o ≡ get_or now at o → Absorbs t o p → KeepMarks now (set now at p)
+marks_step now at t o p lt is a d =
+    let marks : List ℕ = map marks_of now in
+    let more : marks_of o ≤ marks_of p = (let n = absorbs_got is_end t o p a in omega arith) in
+    let was : get_or marks at 0 ≡ marks_of o = get_or-map marks_of now at o 0 lt ∙ ap marks_of (sym is) in
+    let now_is : get_or (map marks_of (set now at p)) d 0 ≡ get_or (set marks at (marks_of p)) d 0 = ap (λ l. get_or l d 0) (map-set marks_of now at p) in
+    ⊎_elim
+    (λ (same : d ≡ at).
+    let put : get_or (set marks at (marks_of p)) d 0 ≡ marks_of p = ap (λ k. get_or (set marks at (marks_of p)) k 0) same ∙ get_or-set_same marks at (marks_of p) 0 (omega (arith, length-map now marks_of)) in
+    let here : get_or marks d 0 ≡ get_or marks at 0 = ap (λ k. get_or marks k 0) same in
+    omega arith)
+    (λ (other : d ≢ at).
+    let put : get_or (set marks at (marks_of p)) d 0 ≡ get_or marks d 0 = get_or-set_other marks at d (marks_of p) 0 other in
+    omega arith)
+    (same_or_other d at)
 
 -- the part of one theft comes back to the owner of its deque
 pub parts_step : (workers worker n at : ℕ) (parts : List ℕ) (p d : ℕ) → at < length parts → (worker + 1 + n) % workers ≡ at → p ≡ get_or parts at 0 + 1
@@ -124,14 +137,14 @@ lead-last owners worker n workers all done t o is h long wide at =
 -- the owners may still take back these thefts of a worker
 pub record IsLeft (worker : ℕ) (all : List Theft) (old : List Owner) (rest : List Theft) (now : List Owner) : Type 0 where
   pub live : All IsLive now
-  pub marked : All HasMark old → All HasMark now
+  pub marks : KeepMarks old now
   pub lead : LeadOn (map deque_of now) worker rest
   pub wide : length now ≡ length old
   pub taking : Taking (λ d. ways_of (length old) d worker (length rest)) (λ d. ways_of (length old) d worker (length all)) (λ weight. sum_by (got_by weight) rest) (λ weight. sum_by (got_by weight) all) old now
 
 -- nothing is taken back yet
 pub left_starts : (worker : ℕ) (all : List Theft) (old : List Owner) → All IsLive old → LeadOn (map deque_of old) worker all → IsLeft worker all old all old
-left_starts worker all old live lead = record { live = live; marked = λ marks. marks; lead = lead; wide = refl; taking = taking_starts (λ d. ways_of (length old) d worker (length all)) (λ weight. sum_by (got_by weight) all) old }
+left_starts worker all old live lead = record { live = live; marks = λ d. omega arith; lead = lead; wide = refl; taking = taking_starts (λ d. ways_of (length old) d worker (length all)) (λ weight. sum_by (got_by weight) all) old }
 
 -- all is taken back
 pub left_ends : (worker : ℕ) (all rest : List Theft) (old new : List Owner) → rest ≡ [] → IsLeft worker all old rest new
@@ -150,7 +163,7 @@ pub left_step : (worker n workers : ℕ) (all : List Theft) (old : List Owner) (
 left_step worker n workers all old rest now done t o p is long wide at a h =
     let place : ℕ = (worker + 1 + n) % workers in
     let found = lead-last now worker n workers rest done t o is h.lead long (wide ∙ sym h.wide) at in
-    let of_now : (P : Owner → Type 0) → All P now → P o = λ P all. subst P (sym at) (All-get_or P now place o found.0 all) in
+    let alive : IsLive o = subst IsLive (sym at) (All-get_or IsLive now place o found.0 h.live) in
     let same : map deque_of (set now place p) ≡ map deque_of now = map-set_same deque_of now place p o (a.deque ∙ ap deque_of at) in
     let count : length rest ≡ suc n = ap length is ∙ length-append done (t ∷ []) ∙ omega arith in
     let before : Taking (λ d. ways_of (length old) d worker (suc n)) (λ d. ways_of (length old) d worker (length all)) (λ weight. sum_by (got_by weight) (done ++ t ∷ [])) (λ weight. sum_by (got_by weight) all) old now =
@@ -158,8 +171,8 @@ left_step worker n workers all old rest now done t o p is long wide at a h =
     (subst (λ (l : List Theft). Taking (λ d. ways_of (length old) d worker (length rest)) (λ d. ways_of (length old) d worker (length all)) (λ weight. sum_by (got_by weight) l) (λ weight. sum_by (got_by weight) all) old now) is h.taking) in
     let after = taking_step worker n place (λ d. ways_of (length old) d worker (length all)) (λ weight. sum_by (got_by weight) all) old now done t o p found.0 at (ap (λ k. (worker + 1 + n) % k) (sym wide)) a before in
     record {
-      live = All-set IsLive now place p (live_absorbs t o p (of_now IsLive h.live) a) h.live;
-      marked = λ marks. (let all = h.marked marks in All-set HasMark now place p (marked_absorbs t o p (of_now HasMark all) a) all);
+      live = All-set IsLive now place p (live_absorbs t o p alive a) h.live;
+      marks = λ d. omega (arith, h.marks d, marks_step now place t o p found.0 at a d);
       lead = subst (λ (l : List DequeId). LeadOn l worker done) (sym same) (lead-front (map deque_of now) worker rest done t is h.lead);
       wide = length-set now place p ∙ h.wide;
       taking = subst (λ (k : ℕ). Taking (λ d. ways_of (length old) d worker k) (λ d. ways_of (length old) d worker (length all)) (λ weight. sum_by (got_by weight) done) (λ weight. sum_by (got_by weight) all) old (set now place p)) long after;

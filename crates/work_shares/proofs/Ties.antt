@@ -7,7 +7,7 @@ use Rattle.std.proofs.lemmas.List.FromFn.{length-map-range_with_len}
 use Rattle.work_shares.specs.declared.share.Share.{Share}
 use Rattle.work_shares.specs.declared.theft.Theft.{Theft}
 use Rattle.work_shares.specs.declared.entry.Entry.{Entry}
-use Rattle.work_shares.specs.Cuts.{block_count}
+use Rattle.work_shares.specs.Cuts.{block_count, blocks_for}
 use Rattle.work_shares.specs.Thefts.{deque_into, pushed_into, entries_after}
 use Rattle.work_shares.specs.Ways.{ways_from}
 use Rattle.work_shares.specs.Entries.{entries_of}
@@ -15,7 +15,7 @@ use Rattle.work_shares.specs.Seats.{count_of}
 use Rattle.work_shares.specs.Rule.{all_parts}
 use Rattle.work_shares.specs.Places.{Place}
 use Rattle.work_shares.specs.Owners.{Owner, deque_of, parts_of, LeadAllOn, IsLive, HasMark, TookBack}
-use Rattle.work_shares.specs.Shares.{place_of, is_ended, AreDeal, AreEnded}
+use Rattle.work_shares.specs.Shares.{place_of, own_blocks, is_ended, AreDeal, AreEnded}
 use Rattle.work_shares.specs.Apart.{own_of, thefts_of}
 use Rattle.work_shares.proofs.AllBack.{lengths_of}
 use Rattle.work_shares.proofs.Full.{ways_full}
@@ -40,6 +40,15 @@ module _ {L : Type 0} where
   place_at total size shares deal k s e =
       let at = deal.each k (place_of s) (slice_get-map_at place_of shares k s e) in
       (at.0, at.1, at.2 ∙ length-map shares place_of, at.3, at.4 ∙ ap (λ w. entries_of (block_count total size) w k) (length-map shares place_of))
+
+  -- the blocks that went into the deque of the share at an index
+  pub own_blocks_at : (total size : ℕ) (shares : List (Share L)) → AreDeal total size shares → (k : ℕ) (s : Share L) → slice_get shares k ≡ Some s → own_blocks s ≡ blocks_for total size (length shares) k
+  own_blocks_at total size shares deal k s e =
+      let at = place_at total size shares deal k s e in
+      ap (λ t. blocks_for t (place_of s).size (place_of s).workers (place_of s).worker) at.0
+      ∙ ap (λ z. blocks_for total z (place_of s).workers (place_of s).worker) at.1
+      ∙ ap (λ w. blocks_for total size w (place_of s).worker) at.2
+      ∙ ap (blocks_for total size (length shares)) at.3
 
   -- the deques of the places are those of the owners
   deques_same : (shares : List (Share L)) → map (λ (q : Place). q.deque) (map place_of shares) ≡ map deque_of (map own_of shares)

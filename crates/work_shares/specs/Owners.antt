@@ -1,5 +1,5 @@
 -- The owners of the deques of a deal, in order, and the thefts into them.
-use Rattle.std.specs.Prelude.{◌≡◌, ℕ, ◌+◌, ◌%◌, ◌<◌, List, [], Vec, Some, length, map, slice_get, slice_index, sum_by}
+use Rattle.std.specs.Prelude.{◌≡◌, ℕ, ◌+◌, ◌%◌, ◌<◌, ◌≤◌, List, [], Vec, Some, length, map, slice_get, slice_index, sum_by}
 use Rattle.std.specs.declared.alloc.Global.{Global}
 use Rattle.crossbeam_deque.specs.Handles.{worker_view, worker_deque, worker_flavor}
 use Rattle.crossbeam_deque.specs.declared.handles.Worker.{Worker}
@@ -61,9 +61,17 @@ LeadAllOn deques thefts = (worker : ℕ) (own : Vec Theft Global) → slice_get 
 abbrev pub IsLive : Owner → Type 0
 IsLive owner = 0 < parts_of owner
 
--- the owner has got an end mark
+-- how many end marks the owner has got
+abbrev pub marks_of : Owner → ℕ
+marks_of owner = ends (worker_view owner).got
+
+-- it has got one
 abbrev pub HasMark : Owner → Type 0
-HasMark owner = 0 < ends (worker_view owner).got
+HasMark owner = 0 < marks_of owner
+
+-- each owner has at least as many end marks as before
+abbrev pub KeepMarks : List Owner → List Owner → Type 0
+KeepMarks old new = (d : ℕ) → slice_index (map marks_of old) d ≤ slice_index (map marks_of new) d
 
 -- the owners took back so many parts of each deque, and what these got, by each weight
 pub record TookBack (back : ℕ → ℕ) (taken : (Entry → ℕ) → ℕ) (old new : List Owner) : Type 0 where

@@ -4,6 +4,7 @@ use Rattle.std.specs.declared.alloc.Global.{Global}
 use Rattle.work_shares.specs.declared.block.Block.{Block}
 use Rattle.work_shares.specs.declared.share.Share.{Share}
 use Rattle.work_shares.specs.declared.settling.Settled.{Settled}
+use Rattle.work_shares.specs.Cuts.{blocks_for}
 use Rattle.work_shares.specs.Blocks.{extents_of}
 use Rattle.work_shares.specs.Seats.{place_of_seat, seat_left, HasOwnMark}
 use Rattle.work_shares.specs.Places.{Place, ArePlaces}
@@ -24,6 +25,10 @@ module _ {L : Type 0} where
   -- the share has taken an end mark from its own deque, behind which no block stands
   abbrev pub HasOwnEnd : Share L → Type 0
   HasOwnEnd s = HasOwnMark s.seat
+
+  -- the blocks that went into its deque
+  abbrev pub own_blocks : Share L → List (ℕ × ℕ)
+  own_blocks s = blocks_for (place_of s).total (place_of s).size (place_of s).workers (place_of s).worker
 
   -- how many blocks the share may still be given
   abbrev pub share_left : Share L → ℕ

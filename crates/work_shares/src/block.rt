@@ -5,15 +5,20 @@ ghost use Rattle.work_shares.specs.Cuts.{block_count};
 /// The positions from `first` on, `count` of them.
 #[derive(Clone, Copy, PartialEq, Eq, Debug)]
 pub struct Block {
+    /// Its first position.
     pub first: u64,
+    /// How many positions it has.
     pub count: u32,
+    /// Its end is a number of 64 bits.
     pub ghost fits: { first + count < 2 ^ 64 },
 }
 
 /// Positions below `total` in blocks of `size`, the last one shorter where needed.
 #[derive(Clone, Copy)]
 pub struct Cut {
+    /// How many positions there are.
     pub total: u64,
+    /// How many positions a block has, but the last one.
     pub size: u32,
     pub ghost some: { 0 < size },
     pub ghost few: { block_count total size ≤ 2 ^ 24 },

@@ -9,6 +9,8 @@ use crossbeam_deque::protocol::{Join, Lesson, Outcome, Protocol, Split};
 use crossbeam_deque::{Pass, Steal, Stealer, Worker};
 use std::alloc::{AllocError, Global};
 
+/// The rule of one deque: what was taken from it and what it holds is what was pushed, and each entry that was taken is known
+/// to one pass alone.
 pub struct DealRule;
 
 impl Protocol<Entry, View> for DealRule {

@@ -10,9 +10,13 @@ use std::alloc::{AllocError, Global};
 /// What the shares of a deal are made of, each in a list of its own.
 #[derive(Drop)]
 pub struct Parts<L> {
+    /// Each share's own deque.
     pub owners: Vec<Owner>,
+    /// Its ways into the deques of others.
     pub thefts: Vec<Vec<Theft>>,
+    /// The blocks that it was given.
     pub notes: Vec<Vec<Block>>,
+    /// Its load.
     pub loads: Vec<L>,
 }
 

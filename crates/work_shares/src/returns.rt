@@ -4,7 +4,7 @@ ghost use Rattle.crossbeam_deque.specs.Handles.{worker_view};
 ghost use Rattle.work_shares.specs.Rule.{Learnt, all_parts};
 ghost use Rattle.work_shares.specs.Thefts.{got_by};
 ghost use Rattle.work_shares.specs.Ways.{ways_of, ways_from};
-ghost use Rattle.work_shares.specs.Owners.{deque_of, parts_of, LeadOn, LeadAllOn, IsLive, HasMark, TookBack};
+ghost use Rattle.work_shares.specs.Owners.{deque_of, parts_of, LeadOn, LeadAllOn, IsLive, KeepMarks, TookBack};
 
 use crate::deque::{Owner, learn, take_back};
 use crate::theft::Theft;
@@ -16,7 +16,7 @@ fn take_back_from(owners: &mut Vec<Owner>, worker: usize, mut thefts: Vec<Theft>
     requires ways { LeadOn (map deque_of owners.old.items) worker thefts.items }
     requires live { All IsLive owners.old.items }
     ensures live { All IsLive owners.new.items }
-    ensures marked { All HasMark owners.old.items → All HasMark owners.new.items }
+    ensures marks { KeepMarks owners.old.items owners.new.items }
     ensures took { TookBack (λ d. ways_of (length owners.old.items) d worker (length thefts.items)) (λ weight. sum_by (got_by weight) thefts.items) owners.old.items owners.new.items }
 {
     let workers = owners.len();
@@ -38,7 +38,7 @@ pub fn take_back_all(owners: &mut Vec<Owner>, mut thefts: Vec<Vec<Theft>>)
     requires ways { LeadAllOn (map deque_of owners.old.items) thefts.items }
     requires live { All IsLive owners.old.items }
     ensures live { All IsLive owners.new.items }
-    ensures marked { All HasMark owners.old.items → All HasMark owners.new.items }
+    ensures marks { KeepMarks owners.old.items owners.new.items }
     ensures took { TookBack (λ d. ways_from (length owners.old.items) d 0 (map (λ own. length own.items) thefts.items)) (λ weight. sum_by (λ own. sum_by (got_by weight) own.items) thefts.items) owners.old.items owners.new.items }
 {
     while let Some(last) = thefts.pop() {

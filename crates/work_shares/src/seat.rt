@@ -12,12 +12,17 @@ use crate::theft::Theft;
 /// One worker's end of a deal, without its load.
 #[derive(Drop)]
 pub struct Seat {
+    /// What was dealt.
     pub cut: Cut,
+    /// How many workers there are.
     pub workers: u32,
+    /// Which of them this one is.
     pub worker: u32,
+    /// Its own deque.
     pub own: Owner,
     /// Into the deques of the workers after this one, in order.
     pub thefts: Vec<Theft>,
+    /// The blocks that it was given, in order.
     pub noted: Vec<Block>,
     /// Whether its own end mark was taken.
     pub over: bool,
@@ -91,6 +96,7 @@ impl Seat {
         ensures dealt { IfSome result (λ block. Contains (dealt self.old.cut.total self.old.cut.size) (extent_of block)) }
         ensures fewer { IfSome result (λ _. seat_left self.new < seat_left self.old) }
         ensures none { IfNone result (self.new.noted.items ≡ self.old.noted.items) }
+        ensures left { IfNone result (seat_left self.new ≡ seat_left self.old) }
         ensures own_end { IfNone result (HasOwnMark self.new) }
     {
         match self.take() {

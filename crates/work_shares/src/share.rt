@@ -12,6 +12,7 @@ use crate::seat::Seat;
 /// One worker's end of a deal, with what the worker carries.
 #[derive(Drop)]
 pub struct Share<L> {
+    /// What the worker carries through the work.
     pub load: L,
     pub(crate) seat: Seat,
     // the room to take the deal apart, at the first share
@@ -37,6 +38,7 @@ impl<L> Share<L> {
         ensures dealt { IfSome result (λ block. Contains (dealt (place_of self.old).total (place_of self.old).size) (extent_of block)) }
         ensures fewer { IfSome result (λ _. share_left self.new < share_left self.old) }
         ensures none { IfNone result (noted_by self.new ≡ noted_by self.old) }
+        ensures left { IfNone result (share_left self.new ≡ share_left self.old) }
         ensures own_end { IfNone result (HasOwnEnd self.new) }
     {
         self.seat.next()

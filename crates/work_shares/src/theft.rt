@@ -11,7 +11,9 @@ use crossbeam_deque::Pass;
 /// A way into another's deque, with one part of the right to take there.
 #[derive(Drop)]
 pub struct Theft {
+    /// The other's deque.
     pub thief: Thief,
+    /// The right to take there.
     pub pass: Pass<Entry, View>,
     /// Whether its end mark was stolen.
     pub over: bool,

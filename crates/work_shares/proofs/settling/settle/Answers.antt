@@ -1,18 +1,20 @@
-use Rattle.std.proofs.Common.{rules, ◌≡◌, ℕ, List, [], ◌∷◌, Vec, Global, Some, IfSome, All, IsPermutation, map, flat_map, length, vec_len, slice_get, refl, sym, ap, ◌∙◌, subst}
+use Rattle.std.proofs.Common.{rules, ◌≡◌, ℕ, List, [], ◌∷◌, Vec, Global, Some, IfSome, All, IsPermutation, map, flat_map, get_or, length, vec_len, slice_get, refl, sym, ap, ◌∙◌, subst}
+use Rattle.std.proofs.lemmas.List.{get_or-map}
+use Rattle.std.proofs.lemmas.Option.{slice_get-get_or}
 use Rattle.work_shares.specs.declared.block.Block.{Block}
 use Rattle.work_shares.specs.declared.theft.Theft.{Theft}
 use Rattle.work_shares.specs.declared.share.Share.{Share}
 use Rattle.work_shares.specs.Cuts.{dealt, IsPartOf}
 use Rattle.work_shares.specs.Blocks.{extents_of}
-use Rattle.work_shares.specs.Owners.{Owner, deque_of, LeadAllOn, IsLive, HasMark, TookBack}
+use Rattle.work_shares.specs.Owners.{Owner, deque_of, LeadAllOn, IsLive, HasMark, KeepMarks, TookBack}
 use Rattle.work_shares.specs.Ways.{ways_from}
 use Rattle.crossbeam_deque.specs.Handles.{worker_view}
 use Rattle.work_shares.specs.Rule.{Learnt}
-use Rattle.work_shares.specs.Shares.{noted_by, AreDeal}
+use Rattle.work_shares.specs.Shares.{noted_by, own_blocks, AreDeal}
 use Rattle.work_shares.specs.Apart.{own_of, thefts_of, notes_of}
 use Rattle.work_shares.proofs.AllBack.{lengths_of, all_got}
-use Rattle.work_shares.proofs.Ties.{place_at, all_lead, all_live, all_marked, owners_whole}
-use Rattle.work_shares.proofs.Settles.{Settling, apart_dealt, once_dealt}
+use Rattle.work_shares.proofs.Ties.{place_at, own_blocks_at, all_lead, all_live, all_marked, owners_whole}
+use Rattle.work_shares.proofs.Settles.{Settling, apart_dealt, once_dealt, own_noted}
 use Rattle.work_shares.proofs.Positions.{positions_once}
 use Rattle.work_shares.proofs.Kept.{AreDeal-size}
 use Rattle.work_shares.proofs.settling.settle.Goals as goal
@@ -69,23 +71,34 @@ returns-clause-blocks g c = blocks_are c.args.shares.items c.parted-owners.resul
 
 -- what the owners learnt, who took back all thefts of a deal
 settling : {L : Type 0} (total block : ℕ) (shares : List (Share L)) (owners new : List Owner) (thefts : List (Vec Theft Global)) → owners ≡ map own_of shares → thefts ≡ map thefts_of shares → AreDeal total block shares
-    → TookBack (λ d. ways_from (length owners) d 0 (lengths_of thefts)) (λ weight. all_got weight thefts) owners new → All (λ o. Learnt (worker_view o) []) new → Settling total block shares new
-settling total block shares owners new thefts own stolen deal took learnt =
+    → TookBack (λ d. ways_from (length owners) d 0 (lengths_of thefts)) (λ weight. all_got weight thefts) owners new → KeepMarks owners new → All (λ o. Learnt (worker_view o) []) new → Settling total block shares new
+settling total block shares owners new thefts own stolen deal took marks learnt =
     let t = took_from (map own_of shares) owners new (map thefts_of shares) thefts own stolen took in
-    record { deal = deal; pushed = t.pushed; got = t.got; learnt = learnt }
+    record { deal = deal; pushed = t.pushed; got = t.got; marks = subst (λ (l : List Owner). KeepMarks l new) own marks; learnt = learnt }
 
 pub returns-clause-apart : goal.returns-clause-apart
 returns-clause-apart g c total block deal =
     let e = c.parted-owners.ensures in
-    let s = settling total block c.args.shares.items _ c.take_back_all.new.owners.items _ e.owners e.thefts deal c.take_back_all.ensures.took c.learn_all.ensures.learnt in
+    let s = settling total block c.args.shares.items _ c.take_back_all.new.owners.items _ e.owners e.thefts deal c.take_back_all.ensures.took c.take_back_all.ensures.marks c.learn_all.ensures.learnt in
     subst (λ (l : List (List Block)). IsPartOf (flat_map extents_of l) (dealt total block)) (sym (blocks_are c.args.shares.items c.parted-owners.result.notes.items e.notes)) (apart_dealt total block c.args.shares.items c.take_back_all.new.owners.items s)
+
+pub returns-clause-own : goal.returns-clause-own
+returns-clause-own g c k d lt mark =
+    let e = c.parted-owners.ensures in
+    let shares = c.args.shares.items in
+    let total = c.requires.0 in
+    let block = c.requires.1.0 in
+    let deal = c.requires.1.1 in
+    let s = settling total block shares _ c.take_back_all.new.owners.items _ e.owners e.thefts deal c.take_back_all.ensures.took c.take_back_all.ensures.marks c.learn_all.ensures.learnt in
+    let own = own_noted total block shares c.take_back_all.new.owners.items s k (own_of d) lt (subst HasMark (sym (get_or-map own_of shares k d (own_of d) lt)) mark) in
+    subst (λ (l : List (List Block)). IsPartOf (own_blocks (get_or shares k d)) (flat_map extents_of l)) (sym (blocks_are shares c.parted-owners.result.notes.items e.notes))
+    (subst (λ (l : List (ℕ × ℕ)). IsPartOf l (flat_map extents_of (map noted_by shares))) (sym (own_blocks_at total block shares deal k (get_or shares k d) (slice_get-get_or shares k d lt))) own)
 
 pub returns-clause-once : goal.returns-clause-once
 returns-clause-once g c total block deal ended =
     let e = c.parted-owners.ensures in
-    let s = settling total block c.args.shares.items _ c.take_back_all.new.owners.items _ e.owners e.thefts deal c.take_back_all.ensures.took c.learn_all.ensures.learnt in
-    let marked = c.take_back_all.ensures.marked (subst (All HasMark) (sym e.owners) (all_marked c.args.shares.items ended)) in
-    subst (λ (l : List (List Block)). IsPermutation (dealt total block) (flat_map extents_of l)) (sym (blocks_are c.args.shares.items c.parted-owners.result.notes.items e.notes)) (once_dealt total block c.args.shares.items c.take_back_all.new.owners.items s marked)
+    let s = settling total block c.args.shares.items _ c.take_back_all.new.owners.items _ e.owners e.thefts deal c.take_back_all.ensures.took c.take_back_all.ensures.marks c.learn_all.ensures.learnt in
+    subst (λ (l : List (List Block)). IsPermutation (dealt total block) (flat_map extents_of l)) (sym (blocks_are c.args.shares.items c.parted-owners.result.notes.items e.notes)) (once_dealt total block c.args.shares.items c.take_back_all.new.owners.items s (all_marked c.args.shares.items ended))
 
 pub returns-clause-positions : goal.returns-clause-positions
 returns-clause-positions g c total block deal ended =

@@ -21,6 +21,10 @@ pub returns-in-Some-clause-fewer : goal.returns-in-Some-clause-fewer
 unfolding seat_left
 returns-in-Some-clause-fewer c = let l = c.in-Some.ensures.left in omega arith
 
+pub returns-in-None-clause-left : goal.returns-in-None-clause-left
+unfolding seat_left
+returns-in-None-clause-left c = let l = c.in-None.ensures.left in omega arith
+
 pub returns-in-None-clause-seated : goal.returns-in-None-clause-seated
 returns-in-None-clause-seated c = seated-ended c.args.self.now c.take.new.self c.requires c.in-None.ensures
 
