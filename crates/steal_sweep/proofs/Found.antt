@@ -21,7 +21,7 @@ use Rattle.steal_sweep.proofs.Lists.{All-from_map, sum_by-map}
 use Rattle.steal_sweep.proofs.Ranges.{in_range}
 
 -- a seat that has put nothing covers no position
-covers_none : (truth : ℕ → Bool) (total : ℕ) (v : Known) → v.put ≡ [] → Covers truth total v []
+pub covers_none : (truth : ℕ → Bool) (total : ℕ) (v : Known) → v.put ≡ [] → Covers truth total v []
 covers_none truth total v none = record { hits = All-same (IsHit truth total) v.put [] none (All-nil (IsHit truth total)); least = All-nil (λ p. truth p ≡ true → v.least ≤ p) }
 
 -- a truth value that isn't true

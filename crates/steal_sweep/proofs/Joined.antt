@@ -57,7 +57,7 @@ module _ {L : Type 0} where
 
   -- the seat takes in that of the last seeker that is left
   pub joined_next : (b : Best) (all all' : BestSeat) (s : Seeker L) (ys xs whole : List (Seeker L)) → xs ≡ ys ++ s ∷ [] → seat_table all' ≡ seat_table all
-      → known_by all' ≡ known ((known_by all).parts + (known_by s.seat).parts) (min (known_by all).least (known_by s.seat).least) ((known_by all).put ++ (known_by s.seat).put)
+      → known_by all' ≡ known ((known_by all).parts + (known_by s.seat).parts) (min (known_by all).least (known_by s.seat).least) ((known_by all).put ++ (known_by s.seat).put) (known_by all).seen
       → Joined b all xs whole → Joined b all' ys whole
   joined_next b all all' s ys xs whole is same both j =
       let j' : Joined b all (ys ++ s ∷ []) whole = subst (λ (l : List (Seeker L)). Joined b all l whole) is j in

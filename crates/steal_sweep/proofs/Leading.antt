@@ -13,12 +13,12 @@ use Rattle.steal_sweep.specs.BestRule.{known, none_yet, WasPut, Bounds, Leads, L
 use Rattle.steal_sweep.proofs.Views.{found_at, parts_set, parts_snoc, parts_two, bounds_set, bounds_snoc, bounds_fall, put_set, put_snoc}
 
 -- the one seat of a new word
-one_view : (j : ℕ) (u : Known) → get_elem? (known 8 none_yet [] ∷ []) j ≡ some u → Bounds none_yet u
-one_view zero u e = subst (Bounds none_yet) (some-injective (known 8 none_yet []) u e) (record { least = λ _. omega arith; spent = λ z. absurd (omega arith) })
+one_view : (j : ℕ) (u : Known) → get_elem? (known 8 none_yet [] [] ∷ []) j ≡ some u → Bounds none_yet u
+one_view zero u e = subst (Bounds none_yet) (some-injective (known 8 none_yet [] []) u e) (record { least = λ _. omega arith; spent = λ z. absurd (omega arith) })
 one_view (suc j) u e = absurd (some-ne-none u (sym e))
 
 -- a new word keeps the rule
-pub begins : Leads (opening (none_yet ∷ []) [] (known 8 none_yet []))
+pub begins : Leads (opening (none_yet ∷ []) [] (known 8 none_yet [] []))
 begins = record { one = refl; parts = refl; bounds = one_view; source = inl refl }
 
 -- the word falls to n, and the seat's view becomes w
@@ -39,7 +39,7 @@ falls_to s id n v w carried h at low low' parts live source =
 pub looks : (slots id : ℕ) (me : Me (Unit {0}) Known) → 0 < me.0.parts → Allows Leads slots id me 0 (λ n. n) (Looked (step slots 0 0 0 none) me)
 looks slots id me live s h _ at _ =
     let x : ℕ = get_or s.words 0 0 in
-    let w : Known = known me.0.parts x me.0.put in
+    let w : Known = known me.0.parts x me.0.put (x ∷ me.0.seen) in
     (w, keeps, tt, falls_to s id x me.0 w me.1 h at (omega arith) (omega arith) refl live (put_set s.views id me.0 w x at (λ y. y) h.source), (refl, (h.bounds id me.0 at).least live, refl))
 
 -- what is put stands among what was put
@@ -55,17 +55,17 @@ pub puts : (slots id p : ℕ) (me : Me (Unit {0}) Known) → 0 < me.0.parts → 
 puts slots id p me live s h _ at _ =
     let x : ℕ = get_or s.words 0 0 in
     let n : ℕ = min x p in
-    let w : Known = known me.0.parts n (p ∷ me.0.put) in
+    let w : Known = known me.0.parts n (p ∷ me.0.put) me.0.seen in
     let source : WasPut (set s.views id w) n = dite (dec_le x p)
     (λ le. let e : n ≡ x = omega arith in subst (WasPut (set s.views id w)) (sym e) (put_set s.views id me.0 w x at (put_later p x me.0.put) h.source))
     (λ more. let lt = lt_of_not-le more in let e : p ≡ n = omega arith in inr (id, w, set_here s.views id w (found_at s.views id me.0 at).0, subst (Contains w.put) e (put_first p me.0.put))) in
     (w, keeps, tt, falls_to s id n me.0 w me.1 h at (omega arith) (omega arith) refl live source, (refl, (h.bounds id me.0 at).least live, refl))
 
 -- a split keeps the rule
-pub splits : (id : ℕ) (v : Known) → 1 < v.parts → Splits Leads id v (known (v.parts - 1) v.least v.put) (known 1 v.least [])
+pub splits : (id : ℕ) (v : Known) → 1 < v.parts → Splits Leads id v (known (v.parts - 1) v.least v.put v.seen) (known 1 v.least [] [])
 splits id v two s h at =
-    let l : Known = known (v.parts - 1) v.least v.put in
-    let r : Known = known 1 v.least [] in
+    let l : Known = known (v.parts - 1) v.least v.put v.seen in
+    let r : Known = known 1 v.least [] [] in
     let x : ℕ = get_or s.words 0 0 in
     let low = (h.bounds id v at).least (omega arith) in
     let left : Bounds x l = record { least = λ _. low; spent = λ z. absurd (omega arith) } in
@@ -94,10 +94,10 @@ source_joined views id other v w b z x two at at' both s =
     s
 
 -- a join keeps the rule
-pub joins : (id other : ℕ) (v w : Known) → 0 < v.parts → 0 < w.parts → Joins Leads id v other w (known (v.parts + w.parts) (min v.least w.least) (v.put ++ w.put)) (known 0 none_yet [])
+pub joins : (id other : ℕ) (v w : Known) → 0 < v.parts → 0 < w.parts → Joins Leads id v other w (known (v.parts + w.parts) (min v.least w.least) (v.put ++ w.put) v.seen) (known 0 none_yet [] [])
 joins id other v w live live' s h at two at' =
-    let b : Known = known (v.parts + w.parts) (min v.least w.least) (v.put ++ w.put) in
-    let z : Known = known 0 none_yet [] in
+    let b : Known = known (v.parts + w.parts) (min v.least w.least) (v.put ++ w.put) v.seen in
+    let z : Known = known 0 none_yet [] [] in
     let vs : List Known = set s.views id b in
     let x : ℕ = get_or s.words 0 0 in
     let was : get_elem? s.views other ≡ some w = sym (set_else s.views id other b two) ∙ at' in

@@ -33,7 +33,7 @@ parts_one views i v e =
 -- two views' parts are among those of all
 pub parts_two : (views : List Known) (i j : ℕ) (v w : Known) → i ≢ j → get_elem? views i ≡ some v → get_elem? views j ≡ some w → v.parts + w.parts ≤ all_parts views
 parts_two views i j v w apart a b =
-    let none : Known = record { parts = 0; least = 0; put = [] } in
+    let none : Known = record { parts = 0; least = 0; put = []; seen = [] } in
     let s = parts_set views i v none a in
     let o = parts_one (set views i none) j w (set_else views i j none (λ e. apart (sym e)) ∙ b) in
     omega arith

@@ -5,9 +5,9 @@ use lib.ListN.{get_elem?}
 use Rattle.atomic_table.specs.Table.{State, Me, Step}
 use Rattle.steal_sweep.specs.declared.rule.Known.{Known}
 
--- what a seat with these parts knows
-abbrev pub known : ℕ → ℕ → List ℕ → Known
-known parts least put = record { parts = parts; least = least; put = put }
+-- what a seat with these parts knows, put and has seen
+abbrev pub known : ℕ → ℕ → List ℕ → List ℕ → Known
+known parts least put seen = record { parts = parts; least = least; put = put; seen = seen }
 
 -- the word before anything was put, 2^64 − 1
 abbrev pub none_yet : ℕ
@@ -37,10 +37,10 @@ pub record Leads (s : State (Unit {0}) Known) : Type 0 where
 abbrev pub Told : Type 1
 Told = Step (Unit {0}) → Me (Unit {0}) Known → ℕ → Me (Unit {0}) Known → Type 0
 
--- a load found a number that isn't above what the seat knew, and the seat knows it now
+-- a load found a number that isn't above what the seat knew; the seat knows it now, and has seen it last
 abbrev pub Looked : Told
-Looked st m found m' = (m'.1 ≡ m.1) × (found ≤ m.0.least) × (m'.0 ≡ known m.0.parts found m.0.put)
+Looked st m found m' = (m'.1 ≡ m.1) × (found ≤ m.0.least) × (m'.0 ≡ known m.0.parts found m.0.put (found ∷ m.0.seen))
 
--- the word is now the lesser of the number found and the position, which the seat has put
+-- the word is now the lesser of the number found and the position, which the seat has put; it has seen nothing more
 abbrev pub PutThere : Told
-PutThere st m found m' = (m'.1 ≡ m.1) × (found ≤ m.0.least) × (m'.0 ≡ known m.0.parts (min found st.first) (st.first ∷ m.0.put))
+PutThere st m found m' = (m'.1 ≡ m.1) × (found ≤ m.0.least) × (m'.0 ≡ known m.0.parts (min found st.first) (st.first ∷ m.0.put) m.0.seen)

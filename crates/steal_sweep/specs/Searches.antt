@@ -20,15 +20,17 @@ pub record Covers (truth : ℕ → Bool) (total : ℕ) (v : Known) (done : List 
   pub hits : All (IsHit truth total) v.put
   pub least : All (λ p. truth p ≡ true → v.least ≤ p) done
 
--- a seat that knew v has loaded the word, which isn't above what it knew: it knows the word now, and has put nothing
+-- a seat that knew v has loaded the word, just once: the word isn't above what it knew; it knows the word now, has put
+-- nothing, and has seen the word last
 pub record Loads (v : Known) (word : ℕ) (w : Known) : Type 0 where
   pub falls : word ≤ v.least
-  pub knows : w ≡ known v.parts word v.put
+  pub knows : w ≡ known v.parts word v.put (word ∷ v.seen)
 
--- a seat that knew v has put p: the word isn't above p now
+-- a seat that knew v has put p, and loaded nothing: the word isn't above p now
 pub record Puts (v : Known) (p : ℕ) (w : Known) : Type 0 where
   pub parts : w.parts ≡ v.parts
   pub put : w.put ≡ p ∷ v.put
+  pub seen : w.seen ≡ v.seen
   pub least : w.least ≤ p
 
 module _ {L : Type 0} where

@@ -1,5 +1,5 @@
 // The word that keeps the least hit.
-ghost use Rattle.std.specs.Prelude.{◌≡◌, ◌<◌, ◌≤◌, ◌+◌, ◌-◌, ◌⊎◌, min, [], ◌∷◌, ◌++◌, length, Contains, IfOk};
+ghost use Rattle.std.specs.Prelude.{◌≡◌, ◌<◌, ◌≤◌, ◌+◌, ◌-◌, ◌⊎◌, min, [], ◌∷◌, ◌++◌, length, All, Contains, IfOk};
 ghost use Rattle.steal_sweep.specs.BestRule.{known, none_yet};
 
 use crate::rule::{Known, LeastRule, Look, OnePart, PutIn};
@@ -39,7 +39,7 @@ impl Best {
     /// A word and its one seat, with all eight parts.
     fn alone(alloc: Global) -> Result<(Best, BestSeat), AllocError>
         ensures seat { IfOk result (λ r. IsSeatOf r.0 r.1) }
-        ensures known { IfOk result (λ r. known_by r.1 ≡ known 8 none_yet []) }
+        ensures known { IfOk result (λ r. known_by r.1 ≡ known 8 none_yet [] []) }
     {
         let (table, seat) = Table::<(), _, (), LeastRule, Global>::of_words(
             alloc,
@@ -55,6 +55,7 @@ impl Best {
         requires few { seats ≤ 8 }
         ensures count { IfOk result (λ r. length r.1.items ≡ seats) }
         ensures seats { IfOk result (λ r. AreNewSeatsOf r.0 r.1.items) }
+        ensures seen { IfOk result (λ r. All (λ s. (known_by s).seen ≡ []) r.1.items) }
     {
         let mut all = Vec::with_capacity(alloc, seats as usize)?;
         let (best, mut first) = Best::alone(alloc)?;
@@ -65,11 +66,12 @@ impl Best {
         Ok((best, all))
     }
 
-    /// The word.
+    /// The word, as it is loaded now: the seat has seen it then.
     pub(crate) fn load(&self, seat: &mut BestSeat) -> u64
         requires { IsSeatOf self.now seat.old }
         ensures same { seat_table seat.new ≡ seat_table seat.old }
-        ensures known { known_by seat.new ≡ known (known_by seat.old).parts result (known_by seat.old).put }
+        ensures known { known_by seat.new ≡ known (known_by seat.old).parts result (known_by seat.old).put
+            (result ∷ (known_by seat.old).seen) }
         ensures falls { result ≤ (known_by seat.old).least }
     {
         self.table.shared.load::<Look>(&mut seat.seat, 0)
@@ -81,6 +83,7 @@ impl Best {
         ensures same { seat_table seat.new ≡ seat_table seat.old }
         ensures parts { (known_by seat.new).parts ≡ (known_by seat.old).parts }
         ensures put { (known_by seat.new).put ≡ position ∷ (known_by seat.old).put }
+        ensures seen { (known_by seat.new).seen ≡ (known_by seat.old).seen }
         ensures position { (known_by seat.new).least ≤ position }
         ensures falls { (known_by seat.new).least ≤ (known_by seat.old).least }
     {
@@ -95,14 +98,15 @@ impl Best {
         requires parts { 1 < (known_by seat.old).parts }
         ensures same { seat_table seat.new ≡ seat_table seat.old }
         ensures left { known_by seat.new
-            ≡ known ((known_by seat.old).parts - 1) (known_by seat.old).least (known_by seat.old).put }
+            ≡ known ((known_by seat.old).parts - 1) (known_by seat.old).least (known_by seat.old).put
+            (known_by seat.old).seen }
         ensures seat { IsSeatOf self.now result }
-        ensures right { known_by result ≡ known 1 (known_by seat.old).least [] }
+        ensures right { known_by result ≡ known 1 (known_by seat.old).least [] [] }
     {
         BestSeat::of(self.table.shared.split_seat::<OnePart>(&mut seat.seat))
     }
 
-    /// Takes another seat in.
+    /// Takes another seat in: what that one put, but not what it has seen.
     pub(crate) fn join(&self, seat: &mut BestSeat, other: BestSeat)
         requires seat { IsSeatOf self.now seat.old }
         requires other { IsSeatOf self.now other }
@@ -110,7 +114,7 @@ impl Best {
         ensures both { known_by seat.new
             ≡ known ((known_by seat.old).parts + (known_by other).parts)
             (min (known_by seat.old).least (known_by other).least)
-            ((known_by seat.old).put ++ (known_by other).put) }
+            ((known_by seat.old).put ++ (known_by other).put) (known_by seat.old).seen }
     {
         let BestSeat { seat: theirs } = other;
         self.table

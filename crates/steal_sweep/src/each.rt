@@ -57,8 +57,9 @@ fn work_all<H: Threads + Sync, L: Send, J: Job<L> + Sync, G: Turnstile + Sync>(
 /// Does the job at each dealt position, with one worker for each share. Each worker takes blocks until its share has
 /// ended, and does them on the load of its share, its local. Where no thread can be started the caller does the work.
 ///
-/// Afterwards local j stands for the positions of the blocks that share j was given, in the order in which they were
-/// taken, under the name that it had before. It takes no memory.
+/// It returns once all workers have. Afterwards local j stands for the positions of the blocks that share j was given, in
+/// the order in which they were taken, under the name that it had before, and each share stands at its old place in the
+/// deal. It takes no memory from an allocator.
 pub fn for_each<H: Threads + Sync, L: Send, J: Job<L> + Sync, G: Turnstile + Sync>(
     th: &H,
     shares: &mut Vec<Share<L>>,
@@ -71,6 +72,7 @@ pub fn for_each<H: Threads + Sync, L: Send, J: Job<L> + Sync, G: Turnstile + Syn
     requires stands { All (λ local. J.stands job.now local []) (map load_of shares.old.items) }
     ensures deal { (total block : ℕ) → AreDeal total block shares.old.items
         → AreDeal total block shares.new.items }
+    ensures place { map place_of shares.new.items ≡ map place_of shares.old.items }
     ensures ended { AreEnded shares.new.items }
     ensures stands { All (λ s. J.stands job.now s.load (positions_in (noted_by s))) shares.new.items }
     ensures name { map (λ s. J.name job.now s.load) shares.new.items

@@ -3,14 +3,14 @@ ghost use Rattle.std.specs.Prelude.{◌≡◌, ℕ, ◌<◌, ◌≤◌, ◌+◌,
 ghost use Rattle.std.specs.List.{range_with_len};
 
 /// What is done at each position of a deal.
-///
-/// Contracts see which positions are the job's own, that a local stands for a list of positions, and a name of each
-/// local, which a turn leaves as it was.
 pub trait Job<L> {
+    /// The positions that the job may be done at.
     ghost own: { Self → ℕ → Type 0 };
 
+    /// A local stands for a list of positions, in the order in which they were done on it.
     ghost stands: { Self → L → List ℕ → Type 0 };
 
+    /// A name of a local, which a turn leaves as it was.
     ghost name: { Self → L → List ℕ };
 
     /// Does the position: where the local stood for a list, it stands for that list and the position behind it.

@@ -36,7 +36,7 @@ fn join_seats<L: Drop>(best: &Best, mut seekers: Vec<Seeker<L>>) -> BestSeat
 }
 
 /// The least position of the sweep whose truth value is true, by one worker for each share, or `None` where there is
-/// none. The shares are settled, and what they carry is dropped. It takes no memory.
+/// none. The shares are settled, and what they carry is dropped. It takes no memory from an allocator.
 ///
 /// What a worker does at a position is a turn of `Search`: it skips a position only where the best word, as it loaded it
 /// there, is no greater.

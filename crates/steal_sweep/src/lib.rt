@@ -9,7 +9,8 @@
 //! skips a position where the word is no greater, so the workers help one another, and the answer is the least hit whatever
 //! the schedule. The test is stored in a `Sweep` beside the fact that its answer depends on the position alone.
 //!
-//! No call waits for another thread, and none but `Best::new` takes memory.
+//! No worker waits for another, unless its turnstile does. `for_each` and `least_hit` return once all their workers have. No
+//! call but `Best::new` is handed an allocator; a thread that is started has a stack of its own.
 #![tactic(auto)]
 
 mod best;

@@ -6,10 +6,12 @@ use crate::best::{Best, BestSeat};
 use crate::job::Job;
 use crate::sweep::{Local, Sweep, Test};
 
-/// What a worker carries through a search: its seat at the best word, and what it tests with.
+/// What a worker carries through a search.
 #[derive(Drop)]
 pub struct Seeker<L> {
+    /// Its seat at the best word.
     pub seat: BestSeat,
+    /// What it tests with.
     pub local: L,
 }
 
@@ -22,7 +24,9 @@ pub struct Seeker<L> {
 /// A caller who wants the seekers back gives it to `for_each`.
 #[derive(Drop)]
 pub struct Search<'a, L: Local, F: Test<L>> {
+    /// What is asked at the positions below its total.
     pub sweep: &'a Sweep<L, F>,
+    /// The best word, at which each worker has a seat.
     pub best: &'a Best,
 }
 

@@ -4,20 +4,21 @@ ghost use Rattle.steal_sweep.specs.Tests.{MayBeCalled, LeavesFit, AnswersBy};
 
 use std::marker::PhantomData;
 
-/// What a worker tests with. Contracts see whether it is fit.
+/// What a worker tests with.
 pub trait Local {
+    /// Whether it is fit to test with.
     ghost fit: { Self → Bool };
 }
 
 /// A test of positions, made with what a worker carries.
-///
-/// Contracts see when it may be called on a local and a position, what a call may answer and leave of the local, and
-/// the truth value that it has at a position.
 pub trait Test<L> {
+    /// Whether it may be called on a local and a position.
     ghost may: { Self → L → ℕ → Bool };
 
+    /// What a call on a local and a position may answer, and which local it may leave.
     ghost gives: { Self → L → ℕ → Bool → L → Type 0 };
 
+    /// The truth value that it has at a position.
     ghost truth: { Self → ℕ → Bool };
 
     /// Whether the position is a hit.
@@ -30,11 +31,16 @@ pub trait Test<L> {
 /// them, leaves the local fit, and answers its truth value there, whatever the local is.
 #[derive(Drop)]
 pub struct Sweep<L: Local, F: Test<L>> {
+    /// The number of positions, which begin at 0.
     pub total: u64,
+    /// The test.
     pub test: F,
     of: PhantomData<L>,
+    /// It may be called at each position on every fit local.
     pub ghost may: { MayBeCalled F.may test L.fit total },
+    /// A call leaves a fit local fit.
     pub ghost stays: { LeavesFit F.gives test L.fit total },
+    /// A call on a fit local answers the position's truth value.
     pub ghost answers: { AnswersBy F.gives test L.fit total (F.truth test) },
 }
 

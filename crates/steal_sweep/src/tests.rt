@@ -9,7 +9,7 @@ use gates::{Delays, Meeting, Turns, mixed};
 use marks::mark;
 use std::alloc::{AllocError, Global};
 use std::test::Fail;
-use tables::{asked, counted, search};
+use tables::{asked, asked_in_turn, counted, search};
 use work_shares::Share;
 
 /// Truth values of the positions below `total`: true at the hits.
@@ -50,6 +50,14 @@ fn no_test_beyond_the_least_hit(rt: HostRuntime) -> Result<(), Fail> {
         counted(&rt, rt.alloc(), &truths, 1, &OpenWay)?,
         (Some(130), 131)
     );
+    Ok(())
+}
+
+#[test]
+fn a_hit_of_another_seat_is_seen(rt: HostRuntime) -> Result<(), Fail> {
+    let truths = table_of(rt.alloc(), 8, &[3])?;
+    // The second seeker asks at 0. The first finds the hit at 3, and the second, which loads the word again, skips 5.
+    assert_eq!(rt; asked_in_turn(rt.alloc(), &truths)?, (1, 1));
     Ok(())
 }
 

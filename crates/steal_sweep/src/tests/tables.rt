@@ -2,7 +2,9 @@ ghost use Rattle.std.specs.Prelude.{◌≡◌, ◌<◌, ◌≤◌, ◌^◌, All,
 ghost use Rattle.work_shares.specs.Shares.{AreDeal, IsFresh, load_of};
 ghost use Rattle.steal_sweep.specs.Seats.{AreNewSeatsOf};
 
-use crate::{Best, BestSeat, Local, Search, Seeker, Sweep, Test, Turnstile, for_each, least_hit};
+use crate::{
+    Best, BestSeat, Job, Local, Search, Seeker, Sweep, Test, Turnstile, for_each, least_hit,
+};
 use std::alloc::{AllocError, Global};
 use std::sync::atomic::{AtomicU64, Ordering};
 use std::thread::Threads;
@@ -141,4 +143,35 @@ pub fn asked<H: Threads + Sync, G: Turnstile + Sync>(
         calls.wrapping_add(share.load.local.0)
     });
     Ok(calls)
+}
+
+/// How often each of two seekers of one best word asks a table, where the second has turns at 0 and 5 and the first has its
+/// one turn at 3, between them.
+pub fn asked_in_turn(alloc: Global, truths: &[bool]) -> Result<(u64, u64), AllocError>
+    requires { 5 < length truths.now }
+{
+    let (best, mut seats) = Best::new(alloc, 2)?;
+    let Some(seat_b) = seats.pop() else {
+        unreachable!()
+    };
+    let Some(seat_a) = seats.pop() else {
+        unreachable!()
+    };
+    let mut a = Seeker {
+        seat: seat_a,
+        local: Calls(0),
+    };
+    let mut b = Seeker {
+        seat: seat_b,
+        local: Calls(0),
+    };
+    let sweep = Sweep::new(truths.len() as u64, Table::new(truths));
+    let search = Search {
+        sweep: &sweep,
+        best: &best,
+    };
+    search.turn(&mut b, 0);
+    search.turn(&mut a, 3);
+    search.turn(&mut b, 5);
+    Ok((a.local.0, b.local.0))
 }

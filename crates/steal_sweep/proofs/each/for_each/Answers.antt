@@ -42,3 +42,14 @@ returns-clause-name g c =
     let whole = written_back c.args.shares.now.len new old (c.work_all.auto.shares ∙ c.as_mut_slice.ensures.len) in
     let same = subst (λ (l : List S). (k : ℕ) (d : S) → k < length l → name (get_or new k d) ≡ name (get_or l k d)) is c.work_all.ensures.name in
     ap (map name) whole ∙ map-same name old new len same
+
+pub returns-clause-place : goal.returns-clause-place
+returns-clause-place g c =
+    let S : Type 0 = Share g.row.L.Denot in
+    let new = c.work_all.new.shares in
+    let old = c.args.shares.now.items in
+    let is = c.as_mut_slice.ensures.value in
+    let len : length new ≡ length old = c.work_all.auto.shares ∙ ap (λ (l : List S). length l) is in
+    let whole = written_back c.args.shares.now.len new old (c.work_all.auto.shares ∙ c.as_mut_slice.ensures.len) in
+    let same = subst (λ (l : List S). (k : ℕ) (d : S) → k < length l → place_of (get_or new k d) ≡ place_of (get_or l k d)) is c.work_all.ensures.place in
+    ap (map (place_of {L = g.row.L.Denot})) whole ∙ map-same (place_of {L = g.row.L.Denot}) old new len same

@@ -11,4 +11,4 @@ returns-else-at-clause-seeks g c = missed _ (record { falls = c.load.ensures.fal
 pub returns-then-at-clause-seeks : goal.returns-then-at-clause-seeks
 returns-then-at-clause-seeks g c =
     found _ _ (record { falls = c.load.ensures.falls; knows = c.load.ensures.known }) c.if-load-position.false c.if-at.ensures.gives
-    (record { parts = c.put.ensures.parts; put = c.put.ensures.put; least = c.put.ensures.position })
+    (record { parts = c.put.ensures.parts; put = c.put.ensures.put; seen = c.put.ensures.seen; least = c.put.ensures.position })
