@@ -40,7 +40,7 @@ abbrev pub EqualLabelsMeanOneCoset : Type 0
 EqualLabelsMeanOneCoset = (n : ℕ) → 0 < n → n ≤ 3 → (v w : List ℕ) → IsWord n v → IsWord n w → (label : Label)
     → IsLabelOfWord n v label → IsLabelOfWord n w label → SameCosetWords n v w
 
--- a word has one label
+-- a word has at most one label
 abbrev pub WordsHaveOneLabel : Type 0
 WordsHaveOneLabel = (n : ℕ) → 0 < n → n ≤ 3 → (word : List ℕ) → IsWord n word → (label other : Label)
     → IsLabelOfWord n word label → IsLabelOfWord n word other → label ≡ other

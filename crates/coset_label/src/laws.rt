@@ -28,7 +28,7 @@ pub fn equal_labels_mean_one_coset()
     ensures { EqualLabelsMeanOneCoset }
 {}
 
-/// A word has one label.
+/// A word has at most one label.
 pub fn words_have_one_label()
     ensures { WordsHaveOneLabel }
 {}
