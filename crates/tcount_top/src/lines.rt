@@ -14,19 +14,22 @@ pub(crate) const TOO_LONG: &[u8] = b"refused 14\n";
 pub(crate) fn refusal(alloc: Global, number: u8, place: usize) -> Result<Vec<u8>, AllocError>
     ensures { IfOk result (λ line. line.items ≡ refusal_line number place) }
 {
-    Ok(format!(in alloc; "refused {number} at {place}\n")?.into_bytes())
+    let line = format!(in alloc; "refused {number} at {place}\n")?;
+    Ok(line.into_bytes())
 }
 
 /// The line of a bound above the limit.
 pub(crate) fn past_limit(alloc: Global, bound: u64, limit: u8) -> Result<Vec<u8>, AllocError>
     ensures { IfOk result (λ line. line.items ≡ limit_line bound limit) }
 {
-    Ok(format!(in alloc; "refused 13 bound {bound} limit {limit}\n")?.into_bytes())
+    let line = format!(in alloc; "refused 13 bound {bound} limit {limit}\n")?;
+    Ok(line.into_bytes())
 }
 
 /// The line of a least T-count above the bound.
 pub(crate) fn above(alloc: Global, bound: u8) -> Result<Vec<u8>, AllocError>
     ensures { IfOk result (λ line. line.items ≡ above_line bound) }
 {
-    Ok(format!(in alloc; "above {bound}\n")?.into_bytes())
+    let line = format!(in alloc; "above {bound}\n")?;
+    Ok(line.into_bytes())
 }

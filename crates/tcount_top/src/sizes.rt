@@ -1,5 +1,5 @@
 //! What `levels` answers.
-ghost use Rattle.std.specs.Prelude.{◌≡◌, ◌+◌, ◌<◌, ◌≤◌, ◌++◌, IfOk, OnOk, length, string_bytes};
+ghost use Rattle.std.specs.Prelude.{◌≡◌, ◌+◌, ◌-◌, ◌≤◌, IfOk, length};
 ghost use Rattle.coset_label.specs.Words.{most_letters};
 ghost use Rattle.level_store.specs.Stored.{AreLevels, levels_of, qubits_of_all};
 ghost use Rattle.tcount_top.specs.Lines.{sizes_text, levels_line};
