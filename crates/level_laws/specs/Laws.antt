@@ -1,5 +1,5 @@
 -- What the laws of this crate say.
-use Rattle.std.specs.Prelude.{◌≡◌, ◌↔◌, ℕ, Bool, true, ◌+◌, ◌-◌, ◌*◌, ◌^◌, ◌<◌, ◌≤◌, ◌⊎◌, List, [], ◌∷◌, ◌++◌, length, count_by, Contains, IsPermutation, slice_index_or}
+use Rattle.std.specs.Prelude.{◌≡◌, ◌↔◌, ℕ, Bool, true, ◌+◌, ◌-◌, ◌*◌, ◌^◌, ◌<◌, ◌≤◌, ◌⊎◌, List, [], ◌∷◌, ◌++◌, length, count_by, Contains, Decides, IsPermutation, slice_index_or}
 use Rattle.std.specs.List.{range_with_len}
 use Rattle.ring_laws.specs.Matrix.{product, Agree}
 use Rattle.tc_ring.specs.Surds.{surds}
@@ -10,7 +10,7 @@ use Rattle.coset_label.specs.Cosets.{SameCoset}
 use Rattle.coset_label.specs.Labels.{HasLeastExponent}
 use Rattle.coset_label.specs.Words.{IsShortWord, most_letters, word_channel}
 use Rattle.level_laws.specs.Kept.{AreKept}
-use Rattle.level_laws.specs.Levels.{IsLeastWord, NoneBelow, IsLevelWord, IsLevel, level, IsFound, StandsIn, candidate_at, IsCandidate, IsOffered, IsOfferTest, offers_of, removed, front_at}
+use Rattle.level_laws.specs.Levels.{IsLeastWord, NoneBelow, IsLevelWord, IsLevel, has_word, level, IsFound, StandsIn, candidate_at, IsCandidate, IsOffered, IsOfferTest, offers_of, removed, front_at}
 
 -- ---- least words
 -- the coset of each circuit's channel has a least word
@@ -61,6 +61,10 @@ CosetsShareWords = (n k : ℕ) (a b : ScaledTable) (w : List ℕ) → SameCoset 
 -- and so of each table of the same entries
 abbrev pub TablesShareWords : Type 0
 TablesShareWords = (n k : ℕ) (a b : ScaledTable) (w : List ℕ) → SameTable n a b → IsFound n k a w → IsFound n k b w
+
+-- and the words of a level tell whether a coset stands in it
+abbrev pub LevelsAreSearched : Type 0
+LevelsAreSearched = (n k : ℕ) (words : List (List ℕ)) → IsLevel n k words → (m : ScaledTable) → Decides (has_word n m words) (StandsIn n k m)
 
 -- the words of a level that have at most as many letters as a packed word keeps can be packed
 abbrev pub LevelWordsAreShort : Type 0

@@ -1,7 +1,7 @@
 //! The facts on which levels rest.
 //!
 //! Each of these functions does nothing. Its contract is the law, for a caller's proof to use.
-ghost use Rattle.level_laws.specs.Laws.{LeastWordsExist, LeastWordsAreUnique, LevelWordsAreLeast, ExponentsBoundLengths, ExponentsBoundLevels, ReducedIsLeast, LevelZero, LevelsAreUnique, LevelsAreFilters, FoundWordsAreUnique, CosetsShareWords, TablesShareWords, LevelWordsAreShort, LevelsAreFew, PositionsAreFew, CandidatesAreFew, CandidatesStandNear, LevelsAreKept, PositionsAreCandidates, OffersAreTold, PositionsOffer, RestsAreCircuits, LettersComeOff, EvenFronts, OddFronts};
+ghost use Rattle.level_laws.specs.Laws.{LeastWordsExist, LeastWordsAreUnique, LevelWordsAreLeast, ExponentsBoundLengths, ExponentsBoundLevels, ReducedIsLeast, LevelZero, LevelsAreUnique, LevelsAreFilters, FoundWordsAreUnique, CosetsShareWords, TablesShareWords, LevelsAreSearched, LevelWordsAreShort, LevelsAreFew, PositionsAreFew, CandidatesAreFew, CandidatesStandNear, LevelsAreKept, PositionsAreCandidates, OffersAreTold, PositionsOffer, RestsAreCircuits, LettersComeOff, EvenFronts, OddFronts};
 
 /// The coset of each circuit's channel has exactly one least word, and a word of a level in a coset is the coset's.
 pub fn cosets_have_least_words()
@@ -25,11 +25,12 @@ pub fn levels_are_lists()
     ensures filter { LevelsAreFilters }
 {}
 
-/// A level has at most one word of a coset, and the same one for each table of the coset.
+/// A level has at most one word of a coset, the same one for each table of the coset, and its words tell whether it has one.
 pub fn cosets_have_one_level_word()
     ensures unique { FoundWordsAreUnique }
     ensures cosets { CosetsShareWords }
     ensures tables { TablesShareWords }
+    ensures searched { LevelsAreSearched }
 {}
 
 /// The words of a level within the limit of packed words can be packed, and are few enough to be dealt by their positions.
