@@ -23,17 +23,7 @@ use Rattle.level_laws.specs.Order.{IsEarlier, words_of}
 use Rattle.level_laws.proofs.Deciding.{one_coset_decided}
 use Rattle.level_laws.proofs.Earlier.{head_less, head_same}
 use Rattle.level_laws.proofs.LeastWords.{own_coset}
-use Rattle.level_laws.proofs.Lists.{all_from, all_at, first, none_in_empty, from_filter, in_filter, in_map, from_map, in_flat_map, from_flat_map, sorted-append}
-
--- ---- the numbers of a range
-in_range : (a count k : ℕ) → a ≤ k → k < a + count → Contains (range_with_len a count) k
-in_range a count k low high = (k - a, omega (arith, length-range_with_len a count), get_or-range_with_len a count (k - a) k (omega arith) ∙ omega arith)
-
-from_range : (a count k : ℕ) → Contains (range_with_len a count) k → (a ≤ k) × (k < a + count)
-from_range a count k c =
-    let l : c.0 < count = omega (arith, c.1, length-range_with_len a count) in
-    let e : a + c.0 ≡ k = sym (get_or-range_with_len a count c.0 k l) ∙ c.2 in
-    (omega arith, omega arith)
+use Rattle.level_laws.proofs.Lists.{all_from, all_at, first, none_in_empty, from_filter, in_filter, in_map, from_map, in_flat_map, from_flat_map, in_range, from_range, sorted-append}
 
 -- ---- all words of a length
 -- those that begin with a letter
@@ -167,9 +157,9 @@ module _ (n k : ℕ) where
 
   passes : (w : List ℕ) → IsWord n w → length w ≡ k → free w ≡ true → IsLevelWord n k w
   passes w h long t =
-      let both = both_parts _ _ t in
-      let none_shorter = not_true _ both.0 in
-      let none_earlier = not_true _ both.1 in
+      let both = both_parts (not (has_word n (word_channel n w) (shorter_words n k))) (not (has_word n (word_channel n w) (earlier_words n k w))) t in
+      let none_shorter : has_word n (word_channel n w) (shorter_words n k) ≡ false = not_true _ both.0 in
+      let none_earlier : has_word n (word_channel n w) (earlier_words n k w) ≡ false = not_true _ both.1 in
       record {
         letters = long;
         least = record {

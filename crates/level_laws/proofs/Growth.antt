@@ -46,20 +46,6 @@ level_zero n = record { rises = (tt, tt); members = λ w. (there w, back w) }
 pub one_level : (n k : ℕ) (xs ys : List (List ℕ)) → IsLevel n k xs → IsLevel n k ys → xs ≡ ys
 one_level n k xs ys h g = same_members nat_list_cmp_total exact_bytes xs ys h.rises g.rises (λ z. (λ c. (g.members z).1 ((h.members z).0 c), λ c. (h.members z).1 ((g.members z).0 c)))
 
--- and so is what is kept
-pub one_kept : (n : ℕ) (offers xs ys : List (List ℕ)) → AreKept n offers xs → AreKept n offers ys → xs ≡ ys
-one_kept n offers xs ys h g = same_members nat_list_cmp_total exact_bytes xs ys h.rises g.rises (λ z. (λ c. (g.members z).1 ((h.members z).0 c), λ c. (h.members z).1 ((g.members z).0 c)))
-
--- the order of the offers doesn't matter, nor how often each is made
-kept_among : (n : ℕ) (offers other : List (List ℕ)) → ((u : List ℕ) → Contains offers u ↔ Contains other u) → (u : List ℕ) → IsKept n offers u → IsKept n other u
-kept_among n offers other same u h = record { offered = (same u).0 h.offered; first = λ v o. h.first v ((same v).1 o) }
-
-pub kept_of_same : (n : ℕ) (offers other kept : List (List ℕ)) → ((u : List ℕ) → Contains offers u ↔ Contains other u) → AreKept n offers kept → AreKept n other kept
-kept_of_same n offers other kept same h = record {
-  rises = h.rises;
-  members = λ u. (λ c. kept_among n offers other same u ((h.members u).0 c), λ m. (h.members u).1 (kept_among n other offers (λ v. ((same v).1, (same v).0)) u m));
-}
-
 module _ (n : ℕ) (some : 0 < n) (few : n ≤ 3) (k : ℕ) where
   -- ---- candidates
   pub candidate_word : (u : List ℕ) → IsCandidate n k u → IsWord n u

@@ -1,11 +1,12 @@
 -- The elements of lists that are made from other lists. Crates above cite this module.
-use Rattle.std.proofs.Common.{◌≡◌, ℕ, zero, suc, Bool, true, false, ◌<◌, ◌≤◌, ◌⊎◌, List, [], ◌∷◌, ◌++◌, length, map, flat_map, filter, Contains, slice_index_or, refl, ap, sym, ◌∙◌, subst, inl, inr, arith}
-use Rattle.std.specs.List.{AllByRecursion, list_any}
+use Rattle.std.proofs.Common.{◌≡◌, ℕ, zero, suc, Bool, true, false, ◌+◌, ◌-◌, ◌<◌, ◌≤◌, ◌⊎◌, List, [], ◌∷◌, ◌++◌, length, map, flat_map, filter, Contains, slice_index_or, refl, ap, sym, ◌∙◌, subst, inl, inr, arith}
+use Rattle.std.specs.List.{AllByRecursion, range_with_len}
 use Rattle.std.specs.List.Sorted.{IsStrictlySortedBy}
 use Rattle.std.specs.declared.cmp.Ordering.{Ordering}
 use Rattle.std.specs.declared.cmp.Ordering.TheVariants.{Less}
 use Rattle.std.proofs.lemmas.Bool.{cond-true, cond-false}
 use Rattle.std.proofs.lemmas.List.{length-map, get_or-map}
+use Rattle.std.proofs.lemmas.List.FromFn.{get_or-range_with_len, length-range_with_len}
 use Rattle.std.proofs.lemmas.List.Elements.{filter_passes, All-filter, All-map, All-contains_itself, Contains-append_left, Contains-append_right, Contains-append_cases}
 
 module _ {X : Type 0} where
@@ -79,6 +80,16 @@ module _ {X Y : Type 0} where
     | inl d ↦ (x, first x xs, d)
     | inr d ↦ (let h = from_flat_map f xs y d in (h.0, later x h.0 xs h.1, h.2))
   ]
+
+-- ---- the numbers of a range
+pub in_range : (a count k : ℕ) → a ≤ k → k < a + count → Contains (range_with_len a count) k
+in_range a count k low high = (k - a, omega (arith, length-range_with_len a count), get_or-range_with_len a count (k - a) k (omega arith) ∙ omega arith)
+
+pub from_range : (a count k : ℕ) → Contains (range_with_len a count) k → (a ≤ k) × (k < a + count)
+from_range a count k c =
+    let l : c.0 < count = omega (arith, c.1, length-range_with_len a count) in
+    let e : a + c.0 ≡ k = sym (get_or-range_with_len a count c.0 k l) ∙ c.2 in
+    (omega arith, omega arith)
 
 -- ---- sorted lists
 -- one behind another, where each element of the first is before each of the second

@@ -13,50 +13,9 @@ use Rattle.level_laws.specs.Kept.{AreKept}
 use Rattle.level_laws.proofs.Search.{Decided}
 use Rattle.level_laws.proofs.Finding.{truth_of, truth_decides}
 use Rattle.level_laws.proofs.LeastWords.{least_word_exists, one_least_word, own_coset, least_of_level}
-use Rattle.level_laws.proofs.Growth.{candidate_word, offered_stands, kept_is_level}
+use Rattle.level_laws.proofs.Growth.{candidate_word, offered_stands}
+use Rattle.level_laws.proofs.Lists.{in_filter, from_filter, in_map, from_map, in_range, from_range}
 use Rattle.level_laws.proofs.Positions.{candidate_is, candidate_position}
-
--- ---- a list that a test and a function make of another
-module _ {X Y : Type 0} (f : X → Y) (test : X → Bool) where
-  -- its elements come from elements that pass
-  pub from_passing : (xs : List X) (y : Y) → Contains (map f (filter test xs)) y → (x : X) × Contains xs x × (test x ≡ true) × (f x ≡ y)
-  from_passing [] y c = let l = c.1 in absurd (omega arith)
-  from_passing (x ∷ xs) y c = by (test x) refl (from_passing xs y)
-    where
-      later : (x' : X) × Contains xs x' × (test x' ≡ true) × (f x' ≡ y) → (x' : X) × Contains (x ∷ xs) x' × (test x' ≡ true) × (f x' ≡ y)
-      later h = (h.0, (suc h.1.0, let l = h.1.1 in omega arith, h.1.2), h.2, h.3)
-
-      first : (k : ℕ) → k < suc (length (map f (filter test xs))) → (d : Y) → test x ≡ true → (slice_index_or (f x ∷ map f (filter test xs)) k d ≡ d)
-          → (Contains (map f (filter test xs)) d → (x' : X) × Contains xs x' × (test x' ≡ true) × (f x' ≡ d)) → (x' : X) × Contains (x ∷ xs) x' × (test x' ≡ true) × (f x' ≡ d)
-      first zero l d t e rest = (x, (0, omega arith, refl), t, e)
-      first (suc k) l d t e rest = let h = rest (k, omega arith, e) in (h.0, (suc h.1.0, let m = h.1.1 in omega arith, h.1.2), h.2, h.3)
-
-      by : (b : Bool) → test x ≡ b → (Contains (map f (filter test xs)) y → (x' : X) × Contains xs x' × (test x' ≡ true) × (f x' ≡ y)) → (x' : X) × Contains (x ∷ xs) x' × (test x' ≡ true) × (f x' ≡ y)
-      by true t rest = let here = subst (λ (l : List X). Contains (map f l) y) (cond-true (test x) _ _ t) c in first here.0 here.1 y t here.2 rest
-      by false t rest = later (rest (subst (λ (l : List X). Contains (map f l) y) (cond-false (test x) _ _ t) c))
-
-  -- and each of these comes in
-  pub passing_in : (xs : List X) (x : X) → Contains xs x → test x ≡ true → Contains (map f (filter test xs)) (f x)
-  passing_in [] x c t = let l = c.1 in absurd (omega arith)
-  passing_in (z ∷ xs) x c t = by (test z) refl c.0 c.1 c.2 (λ d. passing_in xs x d t)
-    where
-      more : Contains (map f (filter test xs)) (f x) → (b : Bool) → test z ≡ b → Contains (map f (filter test (z ∷ xs))) (f x)
-      more d true e = subst (λ (l : List X). Contains (map f l) (f x)) (sym (cond-true (test z) _ _ e)) (suc d.0, let l = d.1 in omega arith, d.2)
-      more d false e = subst (λ (l : List X). Contains (map f l) (f x)) (sym (cond-false (test z) _ _ e)) d
-
-      by : (b : Bool) → test z ≡ b → (k : ℕ) → k < suc (length xs) → slice_index_or (z ∷ xs) k x ≡ x → (Contains xs x → Contains (map f (filter test xs)) (f x)) → Contains (map f (filter test (z ∷ xs))) (f x)
-      by b e zero l same rest = subst (λ (l : List X). Contains (map f l) (f x)) (sym (cond-true (test z) _ _ (ap test same ∙ t))) (0, omega arith, ap f same)
-      by b e (suc k) l same rest = more (rest (k, omega arith, same)) b e
-
--- the numbers below a bound
-pub below_range : (total : ℕ) (k : ℕ) → Contains (range_with_len 0 total) k ↔ (k < total)
-below_range total k = (there, back)
-  where
-    there : Contains (range_with_len 0 total) k → k < total
-    there c = let l : c.0 < total = omega (arith, c.1, length-range_with_len 0 total) in omega (arith, l, c.2, get_or-range_with_len 0 total c.0 k l)
-
-    back : k < total → Contains (range_with_len 0 total) k
-    back l = (k, omega (arith, length-range_with_len 0 total), get_or-range_with_len 0 total k k l ∙ omega arith)
 
 -- what is offered of some positions, and then of others
 pub offers_of-append : (n : ℕ) (words : List (List ℕ)) (test : ℕ → Bool) (done more : List ℕ) → offers_of n words test (done ++ more) ≡ offers_of n words test done ++ offers_of n words test more
@@ -112,25 +71,20 @@ module _ (n : ℕ) (some : 0 < n) (few : n ≤ 3) (k : ℕ) where
     pub all_offered : (done : List ℕ) → IsPermutation (range_with_len 0 total) done → (u : List ℕ) → Contains (offers_of n words test done) u ↔ IsOffered n k u
     all_offered done whole u = (there, back)
       where
-        below : (position : ℕ) → Contains done position → position < total
-        below position c = (below_range total position).0 (Contains-permutation done (range_with_len 0 total) position (IsPermutation-sym (range_with_len 0 total) done whole) c)
-
         there : Contains (offers_of n words test done) u → IsOffered n k u
         there c =
-            let from = from_passing (candidate_at n words) test done u c in
-            subst (IsOffered n k) from.3 ((tells from.0 (below from.0 from.1)).0 from.2)
+            let from = from_map (candidate_at n words) (filter test done) u c in
+            let passed = from_filter test done from.0 from.1 in
+            let low = from_range 0 total from.0 (Contains-permutation done (range_with_len 0 total) from.0 (IsPermutation-sym (range_with_len 0 total) done whole) passed.0) in
+            subst (IsOffered n k) from.2 ((tells from.0 (omega (arith, low.1))).0 passed.1)
 
         back : IsOffered n k u → Contains (offers_of n words test done) u
         back o =
             let at = candidate_position n some k words level u o.candidate in
             let t = (tells at.0 at.1).1 (subst (IsOffered n k) (sym at.2) o) in
-            subst (Contains (offers_of n words test done)) at.2
-            (passing_in (candidate_at n words) test done at.0 (Contains-permutation (range_with_len 0 total) done at.0 whole ((below_range total at.0).1 at.1)) t)
+            let among = Contains-permutation (range_with_len 0 total) done at.0 whole (in_range 0 total at.0 (omega arith) (let l = at.1 in omega arith)) in
+            subst (Contains (offers_of n words test done)) at.2 (in_map (candidate_at n words) (filter test done) at.0 (in_filter test done at.0 among t))
 
     -- the offers add up to the number of positions at which a candidate is offered
     pub offers_count : (done : List ℕ) → IsPermutation (range_with_len 0 total) done → length (offers_of n words test done) ≡ count_by test (range_with_len 0 total)
     offers_count done whole = length-map (filter test done) (candidate_at n words) ∙ length-filter test done ∙ sum_by-IsPermutation (λ x. cond (test x) 1 0) (range_with_len 0 total) done whole
-
-    -- what is kept of the offers is the next level
-    pub kept_of_all : (done : List ℕ) (kept : List (List ℕ)) → IsPermutation (range_with_len 0 total) done → AreKept n (offers_of n words test done) kept → IsLevel n (k + 1) kept
-    kept_of_all done kept whole h = kept_is_level n some few k (offers_of n words test done) kept (all_offered done whole) h

@@ -22,13 +22,13 @@ module _ (n : ℕ) (some : 0 < n) (few : n ≤ 3) where
   -- ---- a table in the coset of a word is the word before a circuit without T gates
   pub clifford_behind : (m : ScaledTable) (v : List ℕ) → IsWord n v → IsCircuitChannel n m → SameCoset n m (word_channel n v) → HasClifford n (built_on n m (undo v))
   clifford_behind m v h circuit same =
-      clifford_of_coset n some few (built_on n m (undo v)) (off_circuit m v h circuit)
+      clifford_of_coset n some few (built_on n m (undo v)) (off_circuit n some few m v h circuit)
       (coset_after n _ _ _ (built_on_coset n (undo v) m _ (coset_after n m _ _ same (same_table_sym n _ _ (joined_one n (word_channel n v))))) (taken_off n some few v h one))
 
   -- ---- as many letters can follow
   pub follow : (a v x : List ℕ) → IsWord n a → IsWord n v → IsWord n x → SameCosetWords n a v
       → (y : List ℕ) × IsWord n y × (length y ≡ length x) × SameCosetWords n (a ++ x) (v ++ y)
-  follow a v x ha hv hx same = from (clifford_behind (word_channel n a) v hv (word_is_circuit a ha) same)
+  follow a v x ha hv hx same = from (clifford_behind (word_channel n a) v hv (word_is_circuit n some few a ha) same)
     where
       from : HasClifford n (built_on n (word_channel n a) (undo v)) → (y : List ℕ) × IsWord n y × (length y ≡ length x) × SameCosetWords n (a ++ x) (v ++ y)
       from d =
