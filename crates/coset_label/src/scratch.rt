@@ -72,6 +72,24 @@ pub fn channel_of_word(word: Word, channel: &mut Channel)
     }
 }
 
+/// Makes the channel into that of a word with one more letter before its first, with the least exponent, where `suffix` is
+/// the channel of the word.
+fn channel_of_front(suffix: &Channel, letter: Pauli, channel: &mut Channel)
+    requires same { suffix.now.qubits ≡ channel.old.qubits }
+    requires letter { letter.qubits ≡ suffix.now.qubits }
+    requires other { letter.code ≢ 0 }
+    requires room { suffix.now.grown < 62 }
+    ensures qubits { channel.new.qubits ≡ channel.old.qubits }
+    ensures built { (w : List ℕ) → IsBuiltOf channel.old.qubits (word_steps w) (scaled suffix.now)
+        → IsBuiltOf channel.old.qubits (word_steps (letter.code ∷ w)) (scaled channel.new) }
+    ensures reduced { IsReduced channel.new }
+    ensures exponent { channel.new.exponent ≤ 1 + suffix.now.exponent }
+{
+    channel.copy_from(suffix);
+    channel.left_rotation(letter);
+    channel.reduce();
+}
+
 impl Scratch {
     /// Room for labels on n qubits. It holds that of the identity.
     pub fn new(alloc: Global, n: u8) -> Result<Scratch, AllocError>
@@ -148,9 +166,7 @@ pub fn label_of_front(suffix: &Channel, letter: Pauli, s: &mut Scratch)
         → IsLabelOfWord s.old.qubits (letter.code ∷ w) s.new.label }
     ensures exponent { s.new.label.exponent ≤ 1 + suffix.now.exponent }
 {
-    s.channel.copy_from(suffix);
-    s.channel.left_rotation(letter);
-    s.channel.reduce();
+    channel_of_front(suffix, letter, &mut s.channel);
     put_in_order(&s.channel, &mut s.leads, &mut s.negative, &mut s.order);
 }
 
