@@ -1,0 +1,5 @@
+pub mod Order
+pub mod Kept
+pub mod Decided
+pub mod Levels
+pub mod Laws
