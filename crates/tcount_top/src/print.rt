@@ -15,8 +15,11 @@ ghost use Rattle.tcount_top.specs.Out.{ShowsLike};
 use channel_rep::Channel;
 use circuit_writer::text;
 use clifford_rest::rest;
+use level_laws::laws::letters_come_off;
+use meet_laws::laws::words_stand_behind_rests;
 use meet_middle::Word2;
 use pauli_basis::Pauli;
+use printed_texts::printed_texts_read_back;
 use std::alloc::{AllocError, Global};
 use tc_bridge::rotation_gates;
 use tc_circuit::{Circuit, Gate};
@@ -47,8 +50,9 @@ fn take_off(channel: &mut Channel, letters: &[Pauli])
     ensures table { SameTable channel.old.qubits (scaled channel.new)
         (removed channel.old.qubits (scaled channel.old) (codes_of letters.now)) }
 {
-    for i in 0..letters.len() {
-        channel.left_rotation_inverse(letters[i]);
+    letters_come_off();
+    for letter in letters {
+        channel.left_rotation_inverse(*letter);
     }
 }
 
@@ -82,8 +86,8 @@ fn blocks_of(alloc: Global, n: u8, letters: &[Pauli]) -> Result<Vec<Gate>, Alloc
     ensures short { IfOk result (λ gates. length gates.items ≤ 17 * length letters.now) }
 {
     let mut gates = Vec::with_capacity(alloc, LONGEST_BLOCK * letters.len())?;
-    for letter in letters.iter().rev() {
-        rotation_gates(*letter, &mut gates);
+    for place in (0..letters.len()).rev() {
+        rotation_gates(letters[place], &mut gates);
     }
     Ok(gates)
 }
@@ -120,6 +124,9 @@ pub fn printed(alloc: Global, target: &Channel, word: &Word2) -> Result<Vec<u8>,
         → IsBuiltOf c.qubits (steps_of c.gates) (scaled target.now)
         → ShowsLike c (length (spelled word.now.first.letters word.now.middle word.now.last.letters)) bytes.items) }
 {
+    letters_come_off();
+    words_stand_behind_rests();
+    printed_texts_read_back();
     let letters = letters_of(alloc, word)?;
     let left = left_without(alloc, target, &letters)?;
     let blocks = blocks_of(alloc, target.qubits(), &letters)?;
