@@ -1,15 +1,13 @@
 -- All words of a length, in order, and the filter of them that is the level.
-use Rattle.std.proofs.Common.{◌≡◌, ◌≢◌, ◌↔◌, ℕ, zero, suc, Bool, true, false, not, ◌&&◌, ◌+◌, ◌-◌, ◌^◌, ◌<◌, ◌≤◌, ◌⊎◌, List, [], ◌∷◌, ◌++◌, length, map, flat_map, filter, slice_index_or, Contains, Decides, refl, ap, sym, ◌∙◌, subst, inl, inr, arith, true≢false, lit<}
+use Rattle.std.proofs.Common.{◌≡◌, ℕ, zero, suc, Bool, true, false, not, ◌&&◌, ◌+◌, ◌-◌, ◌^◌, ◌<◌, ◌≤◌, List, [], ◌∷◌, length, map, flat_map, slice_index_or, Contains, Decides, refl, ap, sym, ◌∙◌, subst, inl, inr, arith, true≢false}
 use Rattle.std.specs.List.{list_any, range_with_len}
 use Rattle.std.specs.List.Sorted.{IsStrictlySortedBy}
 use Rattle.std.specs.Ordering.{nat_cmp, is_lt}
 use Rattle.std.specs.Cmp.Lexicographic.{slice_cmp}
 use Rattle.std.specs.declared.cmp.Ordering.{Ordering}
 use Rattle.std.specs.declared.cmp.Ordering.TheVariants.{Less, Equal, Greater}
-use Rattle.std.proofs.Math.Nat.{one-le-pow}
-use Rattle.std.proofs.lemmas.Bool.{cases_Bool, cases_eq, cases_lt}
+use Rattle.std.proofs.lemmas.Bool.{cases_Bool, cases_lt}
 use Rattle.std.proofs.lemmas.List.Elements.{Contains-append_left, Contains-append_right, Contains-append_cases}
-use Rattle.std.proofs.lemmas.List.FromFn.{get_or-range_with_len, length-range_with_len}
 use Rattle.std.proofs.lemmas.List.Folds.{list_any_at, Any-from_list_any}
 use Rattle.std.proofs.lemmas.List.Kept.{IsStrictlySortedBy-filter}
 use Rattle.channel_rep.specs.Tables.{ScaledTable}
@@ -17,10 +15,10 @@ use Rattle.channel_rep.specs.Words.{IsWord}
 use Rattle.coset_label.specs.Cosets.{SameCoset}
 use Rattle.coset_label.specs.Packing.{four_pos}
 use Rattle.coset_label.specs.Words.{word_channel}
-use Rattle.level_laws.specs.Decided.{in_one_coset}
+use Rattle.coset_label.specs.Decided.{in_one_coset}
 use Rattle.level_laws.specs.Levels.{IsInCoset, shorter_words, earlier_words, has_word, level, IsLevelWord, IsLevel, StandsIn}
-use Rattle.level_laws.specs.Order.{IsEarlier, words_of}
-use Rattle.level_laws.proofs.Deciding.{one_coset_decided}
+use Rattle.coset_label.specs.Order.{IsEarlier, words_of}
+use Rattle.coset_label.proofs.Deciding.{one_coset_decided}
 use Rattle.level_laws.proofs.Earlier.{head_less, head_same}
 use Rattle.level_laws.proofs.LeastWords.{own_coset}
 use Rattle.level_laws.proofs.Lists.{all_from, all_at, first, none_in_empty, from_filter, in_filter, in_map, from_map, in_flat_map, from_flat_map, in_range, from_range, sorted-append}
@@ -66,8 +64,8 @@ unfolding IsStrictlySortedBy
 same_letter p [] h = tt
 same_letter p (v ∷ words) h = (
   all_from (λ (u : List ℕ). slice_cmp nat_cmp (p ∷ v) u ≡ Less) (map (λ (w : List ℕ). p ∷ w) words) (λ u c.
-    let at = from_map (λ (w : List ℕ). p ∷ w) words u c in
-    subst (IsEarlier (p ∷ v)) at.2 (head_same p v at.0 (all_at (λ (w : List ℕ). slice_cmp nat_cmp v w ≡ Less) words h.0 at.0 at.1))),
+      let at = from_map (λ (w : List ℕ). p ∷ w) words u c in
+      subst (IsEarlier (p ∷ v)) at.2 (head_same p v at.0 (all_at (λ (w : List ℕ). slice_cmp nat_cmp v w ≡ Less) words h.0 at.0 at.1))),
   same_letter p words h.1,
 )
 

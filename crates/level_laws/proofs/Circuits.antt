@@ -1,4 +1,4 @@
--- Each circuit's channel lies in the coset of a word with as many letters as it has rotations.
+-- Each circuit's channel lies in the coset of a word with as many letters as it has rotations. Crates above cite this module.
 use Rattle.std.proofs.Common.{◌≡◌, ◌≢◌, ℕ, suc, true, false, ◌^◌, ◌<◌, ◌≤◌, List, [], ◌∷◌, ◌++◌, length, refl, ap, sym, ◌∙◌, subst, arith}
 use Rattle.std.specs.List.{AllByRecursion}
 use Rattle.ring_laws.specs.Cyclotomic.{plus, negative, root2, one_number}

@@ -5,9 +5,9 @@ use Rattle.channel_rep.specs.Tables.{ScaledTable}
 use Rattle.channel_rep.specs.Words.{IsWord}
 use Rattle.coset_label.specs.Cosets.{SameCoset}
 use Rattle.coset_label.specs.Words.{word_channel}
-use Rattle.level_laws.specs.Decided.{in_one_coset}
+use Rattle.coset_label.specs.Decided.{in_one_coset}
 use Rattle.level_laws.specs.Levels.{IsInCoset}
-use Rattle.level_laws.proofs.Deciding.{one_coset_decided}
+use Rattle.coset_label.proofs.Deciding.{one_coset_decided}
 use Rattle.level_laws.proofs.Search.{Decided}
 
 -- ---- two facts

@@ -1,10 +1,10 @@
--- The lexicographic order of words of one length.
+-- The lexicographic order of words of one length. Crates above cite this module.
 use Rattle.std.proofs.Common.{◌≡◌, ℕ, ◌<◌, ◌⊎◌, List, [], ◌∷◌, ◌++◌, length, refl, ap, sym, ◌∙◌, subst, inl, inr, arith, Less, Equal, Greater}
 use Rattle.std.specs.Cmp.{nat_cmp_is}
 use Rattle.std.specs.Cmp.Lexicographic.{slice_cmp, nat_list_cmp_total}
 use Rattle.std.specs.Ordering.{nat_cmp, ordering_then}
 use Rattle.std.proofs.lemmas.Bool.{cases_order}
-use Rattle.level_laws.specs.Order.{IsEarlier}
+use Rattle.coset_label.specs.Order.{IsEarlier}
 
 -- ---- the first letters decide, or what is behind them
 pub head_less : (x y : ℕ) (xs ys : List ℕ) → x < y → IsEarlier (x ∷ xs) (y ∷ ys)
@@ -29,10 +29,6 @@ earlier_asym v w e g = let r = nat_list_cmp_total.antisymm v w in absurd cc
 -- none is before itself
 pub earlier_irrefl : (v : List ℕ) → IsEarlier v v → ⊥
 earlier_irrefl v e = earlier_asym v v e e
-
--- one after another
-pub earlier_trans : (u v w : List ℕ) → IsEarlier u v → IsEarlier v w → IsEarlier u w
-earlier_trans = nat_list_cmp_total.trans
 
 -- of two words one is before the other, or they are one
 pub earlier_total : (v w : List ℕ) → (v ≡ w) ⊎ (IsEarlier v w ⊎ IsEarlier w v)

@@ -1,4 +1,4 @@
--- The word of a level in a coset, and decisions as truth values.
+-- The word of a level in a coset, and decisions as truth values. Crates above cite this module.
 use Rattle.std.proofs.Common.{◌≡◌, ℕ, Bool, true, false, List, refl, sym, inl, inr, Decides, true≢false}
 use Rattle.channel_rep.specs.Tables.{ScaledTable, SameTable}
 use Rattle.coset_label.specs.Cosets.{SameCoset}

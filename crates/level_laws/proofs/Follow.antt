@@ -1,22 +1,19 @@
 -- Letters taken off a channel, and put before a word: one letter changes the least number of letters by at most one.
+-- Crates above cite this module.
 use Rattle.std.proofs.Common.{◌≡◌, ◌≢◌, ℕ, suc, true, false, ◌+◌, ◌^◌, ◌<◌, ◌≤◌, List, [], ◌∷◌, ◌++◌, length, refl, sym, subst, arith}
 use Rattle.std.specs.List.{AllByRecursion}
-use Rattle.tc_circuit.specs.Gate as circuit
 use Rattle.channel_rep.specs.Tables.{ScaledTable, Step, by_rotation, by_inverse_rotation, IsStep, stepped, built_on, built, SameTable, IsCircuitChannel}
 use Rattle.channel_rep.specs.Words.{IsWord}
 use Rattle.channel_rep.proofs.Built.{same_table_refl, same_table_sym, same_table_trans}
-use Rattle.coset_label.specs.Cosets.{SameCoset, SameCosetWords}
+use Rattle.coset_label.specs.Cosets.{SameCosetWords}
 use Rattle.coset_label.specs.Words.{word_steps, word_channel}
 use Rattle.coset_label.proofs.OneCoset.{same_coset_trans}
-use Rattle.tc_bridge.specs.Block.{word_gates}
-use Rattle.tc_bridge.specs.Steps.{steps_of}
 use Rattle.tc_bridge.proofs.Conjugations.{all-append}
-use Rattle.tc_bridge.proofs.Counts.{t_count-append, word_count, word_circuit}
 use Rattle.level_laws.specs.Levels.{undo}
-use Rattle.level_laws.proofs.Joined.{joined, one, joined_right, joined_left, joined_assoc, joined_one, built_on-append}
-use Rattle.level_laws.proofs.Cosets.{coset_before, coset_after, joined_coset, built_on_coset, word-append}
-use Rattle.level_laws.proofs.Inverses.{turned, put_back, taken_off, built_on_same, step_undone, word-cons}
-use Rattle.level_laws.proofs.Circuits.{rotations, circuit_word, channel_word, circuits_joined, word_built}
+use Rattle.level_laws.proofs.Joined.{joined, one, joined_right, built_on-append}
+use Rattle.level_laws.proofs.Cosets.{coset_before, coset_after, joined_coset}
+use Rattle.level_laws.proofs.Inverses.{turned, built_on_same, step_undone, word-cons}
+use Rattle.level_laws.proofs.Circuits.{rotations, channel_word}
 
 -- ---- the steps of a word, and those that undo it
 pub word_has_steps : (n : ℕ) (word : List ℕ) → IsWord n word → AllByRecursion (IsStep n) (word_steps word)

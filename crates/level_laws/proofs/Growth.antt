@@ -1,4 +1,4 @@
--- A level from the two below it.
+-- A level from the two below it. Crates above cite this module.
 use Rattle.std.proofs.Common.{◌≡◌, ◌↔◌, ℕ, ◌+◌, ◌<◌, ◌≤◌, ◌⊎◌, List, [], ◌∷◌, length, Contains, slice_index_or, refl, ap, sym, ◌∙◌, subst, inl, inr, arith}
 use Rattle.std.specs.Cmp.Lexicographic.{nat_list_cmp_total}
 use Rattle.std.specs.List.Sorted.{IsStrictlySortedBy}
@@ -9,9 +9,9 @@ use Rattle.coset_label.specs.Cosets.{SameCosetWords}
 use Rattle.coset_label.specs.Words.{word_channel}
 use Rattle.coset_label.proofs.OneCoset.{same_coset_sym}
 use Rattle.coset_label.proofs.RisingLists.{same_members}
-use Rattle.level_laws.specs.Order.{IsEarlier}
+use Rattle.coset_label.specs.Order.{IsEarlier}
 use Rattle.level_laws.specs.Levels.{IsInCoset, IsLeastWord, IsLevelWord, IsLevel, StandsIn, IsCandidate, IsOffered}
-use Rattle.level_laws.specs.Kept.{IsKept, AreKept}
+use Rattle.coset_label.specs.Kept.{IsKept, AreKept}
 use Rattle.level_laws.proofs.Earlier.{earlier_irrefl, earlier_total}
 use Rattle.level_laws.proofs.LeastWords.{least_word_exists, own_coset, level_of_least, behind_least}
 use Rattle.level_laws.proofs.Follow.{one_less}

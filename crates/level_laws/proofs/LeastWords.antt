@@ -1,16 +1,17 @@
 -- Least words of cosets: they exist, and what is behind their first letters is the least word of its own coset.
+-- Crates above cite this module.
 use Rattle.std.proofs.Common.{◌≡◌, ℕ, ◌^◌, ◌<◌, ◌≤◌, List, [], ◌∷◌, ◌++◌, length, refl, arith, length-append}
 use Rattle.channel_rep.specs.Tables.{ScaledTable, IsCircuitChannel}
 use Rattle.channel_rep.specs.Words.{IsWord}
-use Rattle.coset_label.specs.Cosets.{SameCoset, SameCosetWords}
+use Rattle.coset_label.specs.Cosets.{SameCoset}
 use Rattle.coset_label.specs.Words.{word_channel}
-use Rattle.coset_label.proofs.OneCoset.{same_coset_sym, same_coset_trans}
-use Rattle.level_laws.specs.Order.{IsLeast}
+use Rattle.coset_label.proofs.OneCoset.{same_coset_refl, same_coset_sym, same_coset_trans}
+use Rattle.coset_label.specs.Order.{IsLeast}
 use Rattle.level_laws.specs.Levels.{IsInCoset, IsLeastWord, IsLevelWord}
 use Rattle.level_laws.proofs.Search.{Below, least_exists, one_least}
 use Rattle.level_laws.proofs.Decide.{decide_in_coset}
 use Rattle.level_laws.proofs.Earlier.{earlier_front}
-use Rattle.level_laws.proofs.Cosets.{coset_before, coset_refl, behind_coset, word_front, word_behind, word_both}
+use Rattle.level_laws.proofs.Cosets.{coset_before, behind_coset, word_front, word_behind, word_both}
 use Rattle.level_laws.proofs.Circuits.{channel_word}
 
 -- the letters of a word of a coset are codes
@@ -32,7 +33,7 @@ one_least_word n m = one_least (IsInCoset n m)
 
 -- a word is in its own coset
 pub own_coset : (n : ℕ) (v : List ℕ) → IsWord n v → IsInCoset n (word_channel n v) v
-own_coset n v h = record { word = h; coset = coset_refl n (word_channel n v) }
+own_coset n v h = record { word = h; coset = same_coset_refl n (word_channel n v) }
 
 -- a circuit's channel has a word in its coset, and so a least one
 pub circuit_has_word : (n : ℕ) → 0 < n → n ≤ 3 → (m : ScaledTable) → IsCircuitChannel n m → (v : List ℕ) × IsInCoset n m v
@@ -64,10 +65,6 @@ level_of_least n m w h = record { letters = refl; least = least_of_same n m (wor
 -- a word of a level that is in a coset is the coset's least word
 pub least_of_level : (n k : ℕ) (m : ScaledTable) (w : List ℕ) → IsLevelWord n k w → SameCoset n m (word_channel n w) → IsLeastWord n m w
 least_of_level n k m w h same = least_of_same n (word_channel n w) m w (same_coset_sym n m _ same) h.least
-
--- two words of levels in one coset are one
-pub one_level_word : (n j k : ℕ) (v w : List ℕ) → IsLevelWord n j v → IsLevelWord n k w → SameCosetWords n v w → v ≡ w
-one_level_word n j k v w h g same = one_least_word n (word_channel n v) v w h.least (least_of_level n k (word_channel n v) w g same)
 
 -- ---- the backs of a least word
 -- what is behind a in a least word is least among what makes words of the set behind a

@@ -1,7 +1,6 @@
 pub mod Lists
 pub mod Earlier
 pub mod Search
-pub mod Deciding
 pub mod Decide
 pub mod Joined
 pub mod Cosets

@@ -1,15 +1,13 @@
 -- The offers of a level: which words they are, and how many.
-use Rattle.std.proofs.Common.{◌≡◌, ◌↔◌, ℕ, zero, suc, Bool, true, false, cond, ◌+◌, ◌-◌, ◌*◌, ◌^◌, ◌<◌, ◌≤◌, ◌⊎◌, List, [], ◌∷◌, ◌++◌, length, map, filter, Contains, Decides, slice_index_or, count_by, IsPermutation, refl, ap, sym, ◌∙◌, subst, inl, inr, arith}
+use Rattle.std.proofs.Common.{◌≡◌, ◌↔◌, ℕ, Bool, false, cond, ◌+◌, ◌-◌, ◌*◌, ◌^◌, ◌<◌, ◌≤◌, ◌⊎◌, List, ◌++◌, length, map, filter, Contains, Decides, count_by, IsPermutation, ap, sym, ◌∙◌, subst, inl, inr, arith}
 use Rattle.std.specs.List.{range_with_len}
-use Rattle.std.proofs.lemmas.Bool.{cases_eq, cases_lt, cond-true, cond-false}
+use Rattle.std.proofs.lemmas.Bool.{cases_eq, cases_lt}
 use Rattle.std.proofs.lemmas.List.{length-map, map-append}
 use Rattle.std.proofs.lemmas.List.Elements.{filter-append}
-use Rattle.std.proofs.lemmas.List.FromFn.{get_or-range_with_len, length-range_with_len}
 use Rattle.std.proofs.lemmas.List.Sums.{length-filter}
 use Rattle.std.proofs.lemmas.List.Sorted.{Contains-permutation, IsPermutation-sym, sum_by-IsPermutation}
 use Rattle.coset_label.specs.Words.{word_channel}
 use Rattle.level_laws.specs.Levels.{IsLeastWord, IsLevel, StandsIn, IsCandidate, IsOffered, IsOfferTest, candidate_at, offers_of}
-use Rattle.level_laws.specs.Kept.{AreKept}
 use Rattle.level_laws.proofs.Search.{Decided}
 use Rattle.level_laws.proofs.Finding.{truth_of, truth_decides}
 use Rattle.level_laws.proofs.LeastWords.{least_word_exists, one_least_word, own_coset, least_of_level}

@@ -8,14 +8,11 @@ use Rattle.std.proofs.lemmas.Nat.{mul-add-lt, div-mul-add, mod-mul-add, div_belo
 use Rattle.std.proofs.lemmas.List.{get_or_default}
 use Rattle.std.proofs.lemmas.List.Elements.{Contains-get_or}
 use Rattle.std.proofs.lemmas.Map.Keys.{Less-from_sorted}
-use Rattle.channel_rep.specs.Tables.{ScaledTable}
-use Rattle.channel_rep.specs.Words.{IsWord}
-use Rattle.coset_label.specs.Words.{word_channel}
-use Rattle.level_laws.specs.Order.{IsEarlier}
+use Rattle.coset_label.specs.Order.{IsEarlier}
 use Rattle.level_laws.specs.Laws.{IsFront}
-use Rattle.level_laws.specs.Levels.{IsLeastWord, IsLevelWord, IsLevel, IsCandidate, letter_at, word_at, candidate_at, front_at}
+use Rattle.level_laws.specs.Levels.{IsLevelWord, IsLevel, IsCandidate, letter_at, word_at, candidate_at, front_at}
 use Rattle.level_laws.proofs.Earlier.{head_less, earlier_front, earlier_append}
-use Rattle.level_laws.proofs.Cosets.{word_both, word_behind}
+use Rattle.level_laws.proofs.Cosets.{word_both}
 
 -- ---- the letters
 module _ (n : ℕ) (some : 0 < n) where

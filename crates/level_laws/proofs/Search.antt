@@ -1,8 +1,8 @@
--- A set of words that can be decided has a least word where it has any.
+-- A set of words that can be decided has a least word where it has any. Crates above cite this module.
 use Rattle.std.proofs.Common.{◌≡◌, ℕ, zero, suc, ◌<◌, ◌≤◌, ◌⊎◌, List, [], ◌∷◌, length, refl, ap, ◌∙◌, subst, inl, inr, arith}
 use Rattle.std.specs.List.{AllByRecursion}
 use Rattle.std.proofs.lemmas.Bool.{cases_lt, cases_order}
-use Rattle.level_laws.specs.Order.{IsEarlier, IsLeast}
+use Rattle.coset_label.specs.Order.{IsEarlier, IsLeast}
 use Rattle.level_laws.proofs.Earlier.{earlier_cases, earlier_total}
 
 -- it holds or it doesn't

@@ -1,5 +1,5 @@
--- The words of a level fit into packed words, and there are not too many of them.
-use Rattle.std.proofs.Common.{◌≡◌, ℕ, zero, suc, ◌+◌, ◌-◌, ◌*◌, ◌^◌, ◌<◌, ◌≤◌, List, [], ◌∷◌, length, map, slice_index_or, ap, sym, ◌∙◌, subst, subst₂, arith, lit<, le_trans, mul_comm}
+-- The words of a level fit into packed words, and there are not too many of them. Crates above cite this module.
+use Rattle.std.proofs.Common.{◌≡◌, ℕ, zero, suc, ◌+◌, ◌-◌, ◌*◌, ◌^◌, ◌<◌, ◌≤◌, List, [], length, map, slice_index_or, ap, sym, ◌∙◌, subst, subst₂, arith, lit<, le_trans, mul_comm}
 use Rattle.std.specs.Cmp.{nat_cmp_total}
 use Rattle.std.specs.Ordering.{nat_cmp}
 use Rattle.std.specs.declared.cmp.Ordering.TheVariants.{Less}
@@ -12,7 +12,8 @@ use Rattle.std.proofs.lemmas.Map.Keys.{sorted_from_all_adjacent}
 use Rattle.std.proofs.lemmas.Map.Views.{length-le_from_below}
 use Rattle.channel_rep.specs.Words.{IsWord}
 use Rattle.coset_label.specs.Words.{IsShortWord, most_letters, packed}
-use Rattle.coset_label.proofs.Digits.{DigitsBelow, packed_between, order_is}
+use Rattle.coset_label.proofs.Digits.{packed_between, order_is}
+use Rattle.coset_label.proofs.PackedWords.{digits_below, room_few}
 use Rattle.level_laws.specs.Levels.{IsLevelWord, IsLevel}
 use Rattle.level_laws.proofs.Positions.{level_word, words_rise}
 
@@ -20,18 +21,13 @@ use Rattle.level_laws.proofs.Positions.{level_word, words_rise}
 pub level_is_short : (n : ℕ) → 0 < n → n ≤ 3 → (k : ℕ) → k ≤ most_letters n → (w : List ℕ) → IsLevelWord n k w → IsShortWord (record { qubits = n; letters = w })
 level_is_short n some few k short w h = record { some = some; few = few; word = h.least.member.word; short = subst (λ j. j ≤ most_letters n) (sym h.letters) short }
 
--- letters are digits
-digits_of_word : (n : ℕ) (w : List ℕ) → IsWord n w → DigitsBelow (4 ^ n) w
-digits_of_word n [] h = tt
-digits_of_word n (p ∷ w) h = (h.0.0, digits_of_word n w h.1)
-
 -- the number of a word
 abbrev number : ℕ → List ℕ → ℕ
 number n w = packed n w
 
 -- words of one length are in the order of their numbers
 number_rises : (n : ℕ) (v w : List ℕ) → IsWord n v → IsWord n w → length v ≡ length w → slice_cmp nat_cmp v w ≡ Less → nat_cmp (number n v) (number n w) ≡ Less
-number_rises n v w hv hw long e = sym (order_is (4 ^ n) 0 v w (digits_of_word n v hv) (digits_of_word n w hw) long) ∙ e
+number_rises n v w hv hw long e = sym (order_is (4 ^ n) 0 v w (digits_below n v hv) (digits_below n w hw) long) ∙ e
 
 -- level k has at most (4^n)^k words
 pub level_size : (n k : ℕ) (words : List (List ℕ)) → IsLevel n k words → length words ≤ (4 ^ n) ^ k
@@ -54,24 +50,13 @@ level_size n k words level =
     below : (i d : ℕ) → i < length words → slice_index_or (map (number n) words) i d < (4 ^ n) ^ k
     below i d l =
         let v = level_word n k words level i l in
-        let bound = (packed_between (4 ^ n) 0 (slice_index_or words i []) (digits_of_word n _ v.least.member.word)).1 in
+        let bound = (packed_between (4 ^ n) 0 (slice_index_or words i []) (digits_below n _ v.least.member.word)).1 in
         let whole : (0 + 1) * (4 ^ n) ^ length (slice_index_or words i []) ≡ (4 ^ n) ^ k = one-mul ((4 ^ n) ^ length (slice_index_or words i [])) ∙ ap (λ j. (4 ^ n) ^ j) v.letters in
         subst (λ x. x < (4 ^ n) ^ k) (sym (get_or-map (number n) words i [] d l)) (subst (λ j. number n (slice_index_or words i []) < j) whole bound)
 
--- as many letters as a packed word keeps have at most 2^24 words
-pub room : (n k : ℕ) → 0 < n → n ≤ 3 → k ≤ most_letters n → (4 ^ n) ^ k ≤ 2 ^ 24
-room n k some few short = le_trans (pow-le-pow_right (four_pos n) short) (whole n some few)
-  where
-    whole : (n : ℕ) → 0 < n → n ≤ 3 → (4 ^ n) ^ most_letters n ≤ 2 ^ 24
-    whole zero some few = absurd (omega arith)
-    whole (suc zero) some few = omega arith
-    whole (suc (suc zero)) some few = omega arith
-    whole (suc (suc (suc zero))) some few = omega arith
-    whole (suc (suc (suc (suc n)))) some few = absurd (omega arith)
-
--- so there are at most as many words of a level
+-- so there are at most 2^24 of as many letters as a packed word keeps
 pub level_few : (n : ℕ) → 0 < n → n ≤ 3 → (k : ℕ) → k ≤ most_letters n → (words : List (List ℕ)) → IsLevel n k words → length words ≤ 2 ^ 24
-level_few n some few k short words level = le_trans (level_size n k words level) (room n k some few short)
+level_few n some few k short words level = le_trans (level_size n k words level) (room_few n k some few short)
 
 -- and fewer than 2^30 with a letter each
 pub positions_few : (n : ℕ) → 0 < n → n ≤ 3 → (k : ℕ) → k ≤ most_letters n → (words : List (List ℕ)) → IsLevel n k words → length words * (4 ^ n - 1) < 2 ^ 30
@@ -95,5 +80,5 @@ fewer a b (suc c) l some pos m =
 pub candidates_few : (n : ℕ) → 0 < n → n ≤ 3 → (k : ℕ) → k + 1 ≤ most_letters n → (words : List (List ℕ)) → IsLevel n k words → length words * (4 ^ n - 1) < 2 ^ 24
 candidates_few n some few k short words level =
     let e : k + 1 ≡ suc k = omega arith in
-    let more : (4 ^ n) ^ k * 4 ^ n ≤ 2 ^ 24 = subst (λ p. p ≤ 2 ^ 24) (ap (λ j. (4 ^ n) ^ j) e ∙ pow-suc (4 ^ n) k) (room n (k + 1) some few short) in
+    let more : (4 ^ n) ^ k * 4 ^ n ≤ 2 ^ 24 = subst (λ p. p ≤ 2 ^ 24) (ap (λ j. (4 ^ n) ^ j) e ∙ pow-suc (4 ^ n) k) (room_few n (k + 1) some few short) in
     fewer (length words) ((4 ^ n) ^ k) (4 ^ n) (level_size n k words level) (four_pos n) (one-le-pow k (4 ^ n) (four_pos n)) more

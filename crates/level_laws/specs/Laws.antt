@@ -9,7 +9,7 @@ use Rattle.channel_rep.specs.Words.{IsWord}
 use Rattle.coset_label.specs.Cosets.{SameCoset}
 use Rattle.coset_label.specs.Labels.{HasLeastExponent}
 use Rattle.coset_label.specs.Words.{IsShortWord, most_letters, word_channel}
-use Rattle.level_laws.specs.Kept.{AreKept}
+use Rattle.coset_label.specs.Kept.{AreKept}
 use Rattle.level_laws.specs.Levels.{IsLeastWord, NoneBelow, IsLevelWord, IsLevel, has_word, level, IsFound, StandsIn, candidate_at, IsCandidate, IsOffered, IsOfferTest, offers_of, removed, front_at}
 
 -- ---- least words

@@ -10,8 +10,8 @@ use Rattle.channel_rep.specs.Tables.{ScaledTable, Step, by_inverse_rotation, bui
 use Rattle.channel_rep.specs.Words.{IsWord}
 use Rattle.coset_label.specs.Cosets.{SameCoset}
 use Rattle.coset_label.specs.Words.{word_channel}
-use Rattle.level_laws.specs.Decided.{in_one_coset}
-use Rattle.level_laws.specs.Order.{IsLeast, words_of}
+use Rattle.coset_label.specs.Decided.{in_one_coset}
+use Rattle.coset_label.specs.Order.{IsLeast, words_of}
 
 -- ---- the least word of a coset
 -- a word of the coset of m

@@ -1,5 +1,5 @@
 -- Words before others: where one is exchanged for another of its coset, as many letters as before can follow.
-use Rattle.std.proofs.Common.{◌≡◌, ℕ, ◌^◌, ◌<◌, ◌≤◌, List, ◌++◌, length, arith}
+use Rattle.std.proofs.Common.{◌≡◌, ℕ, ◌<◌, ◌≤◌, List, ◌++◌, length, arith}
 use Rattle.tc_circuit.specs.Gate as circuit
 use Rattle.channel_rep.specs.Tables.{ScaledTable, built_on, built, SameTable, IsCircuitChannel}
 use Rattle.channel_rep.specs.Words.{IsWord}

@@ -4,7 +4,7 @@ use Rattle.channel_rep.specs.Tables.{ScaledTable}
 use Rattle.channel_rep.specs.Words.{IsWord}
 use Rattle.coset_label.specs.Words.{word_channel}
 use Rattle.coset_label.proofs.OneCoset.{same_coset_trans}
-use Rattle.level_laws.specs.Order.{IsEarlier}
+use Rattle.coset_label.specs.Order.{IsEarlier}
 use Rattle.level_laws.specs.Levels.{IsInCoset, IsLeastWord, IsLevelWord, IsLevel, letter_at, word_at, front_at}
 use Rattle.level_laws.proofs.Cosets.{word_front, word_behind, word_both}
 use Rattle.level_laws.proofs.LeastWords.{own_coset}

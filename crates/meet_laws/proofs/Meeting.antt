@@ -1,12 +1,12 @@
 -- Halves that meet spell the least word.
-use Rattle.std.proofs.Common.{◌≡◌, ℕ, zero, suc, ◌+◌, ◌<◌, ◌≤◌, List, [], ◌∷◌, ◌++◌, length, refl, ap, sym, ◌∙◌, subst, inl, inr, arith, length-append}
+use Rattle.std.proofs.Common.{◌≡◌, ℕ, ◌+◌, ◌<◌, ◌≤◌, List, ◌++◌, length, ap, sym, ◌∙◌, subst, inl, inr, arith, length-append}
 use Rattle.std.proofs.lemmas.Bool.{cases_order, cases_lt}
 use Rattle.channel_rep.specs.Tables.{ScaledTable}
 use Rattle.channel_rep.specs.Words.{IsWord}
 use Rattle.channel_rep.proofs.Built.{same_table_sym}
 use Rattle.coset_label.specs.Words.{word_channel}
 use Rattle.coset_label.proofs.OneCoset.{same_coset_sym, same_coset_trans}
-use Rattle.level_laws.specs.Order.{IsEarlier}
+use Rattle.coset_label.specs.Order.{IsEarlier}
 use Rattle.level_laws.specs.Levels.{IsInCoset, IsLeastWord, NoneBelow, Meets, removed}
 use Rattle.level_laws.proofs.Earlier.{earlier_irrefl, earlier_asym}
 use Rattle.meet_laws.proofs.Fronts.{IsSplit, split, AreFronts}

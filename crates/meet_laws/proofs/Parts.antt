@@ -1,6 +1,6 @@
 -- The fronts of a least word are least, and halves that meet spell one.
 use Rattle.std.proofs.Common.{◌≡◌, ℕ, List, ◌++◌, length, subst, inl, inr, arith, length-append}
-use Rattle.level_laws.specs.Order.{IsEarlier, IsLeast}
+use Rattle.coset_label.specs.Order.{IsEarlier, IsLeast}
 use Rattle.level_laws.proofs.Earlier.{earlier_append, earlier_total}
 use Rattle.level_laws.proofs.Search.{one_least}
 
