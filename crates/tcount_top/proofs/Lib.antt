@@ -1,3 +1,5 @@
-pub mod Limits
 pub mod Words
 pub mod Letters
+pub mod Printing
+pub mod Outcomes
+pub mod Answering

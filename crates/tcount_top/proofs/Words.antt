@@ -102,7 +102,7 @@ pub record AreFour (name qubits top workers : List ℕ) : Type 0 where
   pub few : crew ≤ 8
 
 -- words have at most nine letters
-most_nine : (n : ℕ) → most_letters n ≤ 9
+pub most_nine : (n : ℕ) → most_letters n ≤ 9
 most_nine zero = omega arith
 most_nine (suc zero) = omega arith
 most_nine (suc (suc zero)) = omega arith

@@ -1,8 +1,9 @@
 //! What `levels` answers.
-ghost use Rattle.std.specs.Prelude.{◌≡◌, ◌+◌, ◌-◌, ◌≤◌, IfOk, length};
+ghost use Rattle.std.specs.Prelude.{◌≡◌, ◌+◌, ◌-◌, ◌<◌, ◌≤◌, ◌++◌, IfOk, OnOk, length, codes, decimal, string_bytes};
 ghost use Rattle.coset_label.specs.Words.{most_letters};
+ghost use Rattle.level_laws.specs.Levels.{level};
 ghost use Rattle.level_store.specs.Stored.{AreLevels, levels_of, qubits_of_all};
-ghost use Rattle.tcount_top.specs.Lines.{sizes_text, levels_line};
+ghost use Rattle.tcount_top.specs.Lines.{levels_line};
 
 use level_laws::laws::levels_are_lists;
 use level_store::Levels;
@@ -30,23 +31,41 @@ fn levels_to<H: Threads + Sync, G: Turnstile + Sync>(
     ensures height { IfOk result (λ s. length (levels_of s) ≡ top + 1) }
 {
     let mut levels = Levels::start(alloc, qubits)?;
-    for _ in 0..top {
+    while levels.height() < top {
         levels.grow(th, alloc, workers, gate)?;
     }
     Ok(levels)
 }
 
+/// The number of words of a level.
+fn size_of(levels: &Levels, k: u8) -> u64
+    requires levels { AreLevels levels.now }
+    requires height { k < length (levels_of levels.now) }
+    ensures { result ≡ length (level (qubits_of_all levels.now) k) }
+{
+    levels_are_lists();
+    let level = levels.level(k);
+    level.count()
+}
+
+/// Appends a space and a number.
+fn push_number(line: &mut String, number: u64) -> Result<(), AllocError>
+    ensures { OnOk result (string_bytes line.new ≡ string_bytes line.old ++ (codes " " ++ decimal number)) }
+{
+    write!(line, " {number}")?;
+    Ok(())
+}
+
 /// The line of the sizes of all levels.
 fn sizes_line(alloc: Global, levels: &Levels) -> Result<Vec<u8>, AllocError>
     requires { AreLevels levels.now }
-    ensures { IfOk result (λ line. line.items ≡ levels_line (qubits_of_all levels.now) (length (levels_of levels.now) - 1)) }
+    ensures { IfOk result (λ line. line.items
+        ≡ levels_line (qubits_of_all levels.now) (length (levels_of levels.now) - 1)) }
 {
-    levels_are_lists();
-    let first = levels.level(0).count();
+    let first = size_of(levels, 0);
     let mut line = format!(in alloc; "{first}")?;
-    for k in 1..levels.height() + 1 {
-        let count = levels.level(k).count();
-        write!(line, " {count}")?;
+    for k in 0..levels.height() {
+        push_number(&mut line, size_of(levels, k + 1))?;
     }
     line.push_str("\n")?;
     Ok(line.into_bytes())

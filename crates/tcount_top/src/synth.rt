@@ -1,18 +1,17 @@
 //! What `synth` answers to a text.
-ghost use Rattle.std.specs.Prelude.{◌≡◌, ◌≤◌, ◌*◌, ℕ, List, IfOk, length};
-ghost use Rattle.tc_circuit.specs.Model.{IsLeastTCount, t_count_of};
-ghost use Rattle.coset_label.specs.Words.{most_letters};
+ghost use Rattle.std.specs.Prelude.{◌≤◌, ℕ, List, IfOk, length};
+ghost use Rattle.tc_circuit.specs.Model.{t_count_of};
 ghost use Rattle.qasm_reader.specs.Read.{Reads};
-ghost use Rattle.tcount_top.specs.Out.{SynthOut, ShowsLike, longest, most_bound};
+ghost use Rattle.tcount_top.specs.Out.{SynthOut, longest, most_bound};
 
 use crate::Status;
 use crate::command::most_letters;
 use crate::lines::{above, past_limit, refusal};
 use crate::print::printed;
 use level_store::Levels;
+use meet_laws::laws::least_counts_are_lengths;
 use meet_middle::{Answer, least_word};
-use printed_texts::printed_texts_read_back;
-use qasm_reader::{ReadFault, read};
+use qasm_reader::{ReadFault, read, read_circuits_are_small};
 use std::alloc::{AllocError, Global};
 use std::thread::Threads;
 use steal_sweep::Turnstile;
@@ -35,11 +34,19 @@ fn search<H: Threads + Sync, G: Turnstile + Sync>(
     ensures { IfOk result (λ r. (text : List ℕ) → length text ≤ longest → Reads text circuit.now
         → SynthOut bound text r.0 r.1.items) }
 {
+    least_counts_are_lengths();
+    read_circuits_are_small();
     let channel = channel_of(alloc, circuit)?;
     let mut levels = Levels::start(alloc, circuit.qubits())?;
     match least_word(th, alloc, &mut levels, &channel, bound, workers, gate)? {
-        Answer::Least(word) => Ok((Status::Found, printed(alloc, &channel, &word)?)),
-        Answer::Above => Ok((Status::Above, above(alloc, bound)?)),
+        Answer::Least(word) => {
+            let bytes = printed(alloc, &channel, &word)?;
+            Ok((Status::Found, bytes))
+        }
+        Answer::Above => {
+            let line = above(alloc, bound)?;
+            Ok((Status::Above, line))
+        }
     }
 }
 
@@ -60,7 +67,8 @@ fn answer_for<H: Threads + Sync, G: Turnstile + Sync>(
 {
     let limit = 2 * most_letters(circuit.qubits());
     if bound > limit as u64 {
-        return Ok((Status::Refused, past_limit(alloc, bound, limit)?));
+        let line = past_limit(alloc, bound, limit)?;
+        return Ok((Status::Refused, line));
     }
     search(th, alloc, circuit, bound as u8, workers, gate)
 }
@@ -79,10 +87,12 @@ pub(crate) fn synth<H: Threads + Sync, G: Turnstile + Sync>(
     requires few { workers ≤ 8 }
     ensures { IfOk result (λ r. SynthOut bound text.now r.0 r.1.items) }
 {
+    read_circuits_are_small();
     match read(alloc, text) {
         Ok(circuit) => answer_for(th, alloc, &circuit, bound, workers, gate),
         Err(ReadFault::Refused { number, place }) => {
-            Ok((Status::Refused, refusal(alloc, number, place)?))
+            let line = refusal(alloc, number, place)?;
+            Ok((Status::Refused, line))
         }
         Err(ReadFault::Memory) => Err(AllocError),
     }
