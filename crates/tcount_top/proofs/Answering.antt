@@ -130,7 +130,7 @@ past_answers words source sink bound workers is status sound front response =
 
 -- words that ask for no text
 unread : (words : List (List ℕ)) (source : Device) → (AskText words → ⊥) → IsUntouched source → IsSound source → Took words source
-unread words source no same sound = record { sound = sound; text = λ ask. absurd (no ask); at_most = takes_none _ _ same }
+unread words source unasked same sound = record { sound = sound; text = λ ask. absurd (unasked ask); at_most = takes_none _ _ same }
 
 -- words that are no command
 pub usage_answers : (words : List (List ℕ)) (source sink : Device) → (IsCommand words → ⊥) → (status : Status) → IsUntouched source → IsSound source → Responds sink usage_line Usage status → Answers words source sink status

@@ -3,3 +3,4 @@ pub mod Letters
 pub mod Printing
 pub mod Outcomes
 pub mod Answering
+pub mod Counts

@@ -1,0 +1,26 @@
+use Rattle.std.proofs.Common.{◌≡◌, refl, ap, subst}
+use Rattle.tcount_top.specs.declared.command.Command.{Command}
+use Rattle.tcount_top.specs.declared.command.Command.TheVariants.{Synth, Levels}
+use Rattle.tcount_top.specs.Words.{texts_of, Spell, IsSynth, IsLevels}
+use Rattle.tcount_top.specs.Lines.{usage_line}
+use Rattle.tcount_top.proofs.Answering.{usage_answers, levels_answers}
+use Rattle.tcount_top.proofs.top.run.Goals as goal
+
+pub returns-in-Some-Synth-clause-answers : goal.returns-in-Some-Synth-clause-answers
+returns-in-Some-Synth-clause-answers g c =
+    let words = texts_of c.args.words.now in
+    let is : IsSynth words c.in-Some-Synth.bound c.in-Some-Synth.workers = subst (λ (x : Command). Spell words x) c.in-Some-Synth.field-0-is c.in-Some-Synth.ensures.some in c.run_synth.ensures.answers words is
+
+pub returns-in-Some-Levels-clause-answers : goal.returns-in-Some-Levels-clause-answers
+returns-in-Some-Levels-clause-answers g c =
+    let words = texts_of c.args.words.now in
+    let is : IsLevels words c.in-Some-Levels.qubits c.in-Some-Levels.top c.in-Some-Levels.workers = subst (λ (x : Command). Spell words x) c.in-Some-Levels.field-0-is c.in-Some-Levels.ensures.some in
+    levels_answers words _ _ c.in-Some-Levels.qubits c.in-Some-Levels.top c.in-Some-Levels.workers is _ refl refl (λ e. ap (g.K.Sink.written) (c.run_levels.ensures.unwritten e)) c.run_levels.ensures.answers
+
+pub returns-in-None-clause-answers : goal.returns-in-None-clause-answers
+unfolding usage_line
+returns-in-None-clause-answers g c = usage_answers (texts_of c.args.words.now) _ _ c.in-None.ensures.none _ refl refl c.respond.ensures.responds
+
+pub returns-in-None-clause-no_command : goal.returns-in-None-clause-no_command
+unfolding usage_line
+returns-in-None-clause-no_command g c = λ _. c.respond.ensures.responds
