@@ -6,6 +6,7 @@ mod made;
 use gates::Meeting;
 use std::alloc::{AllocError, Global};
 use std::test::Fail;
+use std::thread::Threads;
 use steal_sweep::{OpenWay, Turnstile};
 use tc_io::{CleanSource, MemSink, MemSource, StdSink, StdSource};
 
@@ -16,16 +17,16 @@ const CONTROLLED_S: &str = "OPENQASM 2.0;\nqreg q[2];\nt q[0];\nt q[1];\ncx q[0]
 const CONTROLLED_S_PRINTED: &str = "// t-count 3\n// word IZ ZI ZZ\nOPENQASM 2.0;\ninclude \"qelib1.inc\";\nqreg q[2];\nh q[1];\ns q[1];\nh q[1];\ns q[1];\ns q[0];\ns q[0];\ncx q[0],q[1];\nh q[1];\ns q[0];\ncx q[0],q[1];\nt q[1];\ncx q[0],q[1];\nt q[1];\nt q[0];\n";
 
 // The status of a run over a text, and the bytes that it writes.
-fn answer<G: Turnstile + Sync>(
-    rt: &HostRuntime,
+fn answer<H: Threads + Sync, G: Turnstile + Sync>(
+    th: &H,
+    alloc: Global,
     words: &[&str],
     text: &[u8],
     gate: &G,
 ) -> Result<(Status, Vec<u8>), AllocError> {
-    let alloc = rt.alloc();
     let mut source = CleanSource::new(Vec::from_slice(alloc, text)?);
     let mut sink = MemSink::new(alloc, 4096, 100, Vec::new(alloc))?;
-    let status = run(rt, alloc, words, &mut source, &mut sink, gate);
+    let status = run(th, alloc, words, &mut source, &mut sink, gate);
     Ok((status, Vec::from_slice(alloc, sink.bytes())?))
 }
 
@@ -55,7 +56,7 @@ fn usage(rt: HostRuntime) -> Result<(), Fail> {
         &[],
     ];
     for words in rows {
-        let (status, bytes) = answer(&rt, words, b"OPENQASM 2.0;\n", &OpenWay)?;
+        let (status, bytes) = answer(&rt, rt.alloc(), words, b"OPENQASM 2.0;\n", &OpenWay)?;
         assert_eq!(rt; status, Status::Usage);
         assert!(rt; bytes.as_slice() == line.as_bytes());
     }
@@ -136,7 +137,7 @@ fn outcomes(rt: HostRuntime) -> Result<(), Fail> {
         ),
     ];
     for (bound, text, status, bytes) in rows {
-        let (answered, written) = answer(&rt, &["synth", bound, "2"], text.as_bytes(), &OpenWay)?;
+        let (answered, written) = answer(&rt, rt.alloc(), &["synth", bound, "2"], text.as_bytes(), &OpenWay)?;
         assert_eq!(rt; answered, status, "{bytes:?}");
         assert!(rt; written.as_slice() == bytes.as_bytes(), "{bytes:?}");
     }
@@ -203,7 +204,7 @@ fn refusals(rt: HostRuntime) -> Result<(), Fail> {
         ),
     ];
     for (bound, text, bytes) in rows {
-        let (status, written) = answer(&rt, &["synth", bound, "1"], text.as_bytes(), &OpenWay)?;
+        let (status, written) = answer(&rt, rt.alloc(), &["synth", bound, "1"], text.as_bytes(), &OpenWay)?;
         assert_eq!(rt; status, Status::Refused, "{bytes:?}");
         assert!(rt; written.as_slice() == bytes.as_bytes(), "{bytes:?}");
     }
@@ -245,7 +246,7 @@ fn limits(rt: HostRuntime) -> Result<(), Fail> {
     ];
     for (front, line, times, status, bytes) in rows {
         let text = repeated(rt.alloc(), front, line, times)?;
-        let (answered, written) = answer(&rt, &["synth", "0", "1"], &text, &OpenWay)?;
+        let (answered, written) = answer(&rt, rt.alloc(), &["synth", "0", "1"], &text, &OpenWay)?;
         assert_eq!(rt; answered, status, "{line:?} {times}");
         assert!(rt; written.as_slice() == bytes.as_bytes(), "{line:?} {times}");
     }
@@ -257,7 +258,7 @@ fn limits(rt: HostRuntime) -> Result<(), Fail> {
 fn any_workers(rt: HostRuntime) -> Result<(), Fail> {
     for workers in ["1", "2", "3", "8"] {
         let words = ["synth", "12", workers];
-        let (status, bytes) = answer(&rt, &words, CONTROLLED_S.as_bytes(), &OpenWay)?;
+        let (status, bytes) = answer(&rt, rt.alloc(), &words, CONTROLLED_S.as_bytes(), &OpenWay)?;
         assert_eq!(rt; status, Status::Found);
         assert!(rt; bytes.as_slice() == CONTROLLED_S_PRINTED.as_bytes(), "{workers} workers");
     }
@@ -275,7 +276,7 @@ fn sizes_of_levels(rt: HostRuntime) -> Result<(), Fail> {
     ];
     for (qubits, top, line) in rows {
         for workers in ["1", "2", "3", "8"] {
-            let (status, bytes) = answer(&rt, &["levels", qubits, top, workers], b"", &OpenWay)?;
+            let (status, bytes) = answer(&rt, rt.alloc(), &["levels", qubits, top, workers], b"", &OpenWay)?;
             assert_eq!(rt; status, Status::Found);
             assert!(rt; bytes.as_slice() == line.as_bytes(), "{qubits} qubits, {workers} workers");
         }
@@ -286,7 +287,7 @@ fn sizes_of_levels(rt: HostRuntime) -> Result<(), Fail> {
 #[test]
 fn two_workers_meet(rt: HostRuntime) -> Result<(), Fail> {
     let gate = Meeting::new();
-    let (status, bytes) = answer(&rt, &["levels", "2", "2", "2"], b"", &gate)?;
+    let (status, bytes) = answer(&rt, rt.alloc(), &["levels", "2", "2", "2"], b"", &gate)?;
     assert_eq!(rt; status, Status::Found);
     assert!(rt; bytes.as_slice() == b"1 15 165\n".as_slice());
     assert!(rt; gate.was_seen());
@@ -297,7 +298,7 @@ fn two_workers_meet(rt: HostRuntime) -> Result<(), Fail> {
 #[test]
 fn two_searchers_meet(rt: HostRuntime) -> Result<(), Fail> {
     let gate = Meeting::new();
-    let (status, bytes) = answer(&rt, &["synth", "3", "2"], CONTROLLED_S.as_bytes(), &gate)?;
+    let (status, bytes) = answer(&rt, rt.alloc(), &["synth", "3", "2"], CONTROLLED_S.as_bytes(), &gate)?;
     assert_eq!(rt; status, Status::Found);
     assert!(rt; bytes.as_slice() == CONTROLLED_S_PRINTED.as_bytes());
     assert!(rt; gate.was_seen());
@@ -312,10 +313,10 @@ fn made_circuits(rt: HostRuntime) -> Result<(), Fail> {
     for seed in 0..60u64 {
         let (text, bound) = made::circuit(rt.alloc(), seed)?;
         let words = ["synth", bound, "1"];
-        let (status, bytes) = answer(&rt, &words, &text, &OpenWay)?;
+        let (status, bytes) = answer(&rt, rt.alloc(), &words, &text, &OpenWay)?;
         assert_eq!(rt; status, Status::Found, "seed {seed}");
         for workers in ["1", "2", "3", "8"] {
-            let (_, again) = answer(&rt, &["synth", bound, workers], &bytes, &OpenWay)?;
+            let (_, again) = answer(&rt, rt.alloc(), &["synth", bound, workers], &bytes, &OpenWay)?;
             assert!(rt; again.as_slice() == bytes.as_slice(), "seed {seed}, {workers} workers");
         }
     }
