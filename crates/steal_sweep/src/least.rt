@@ -54,6 +54,7 @@ pub fn least_hit<
     gate: &G,
 ) -> Option<u64>
     requires deal { (block : ℕ) × AreDeal sweep.now.total block shares.items }
+    requires needs { F.needs sweep.now.test }
     requires fresh { All IsFresh shares.items }
     requires fit { All (λ seeker. fit_for F.fits L.fit sweep.now.test seeker.local ≡ true) (map load_of shares.items) }
     requires seats { AreNewSeatsOf best (map (λ seeker. seeker.seat) (map load_of shares.items)) }

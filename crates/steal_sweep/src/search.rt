@@ -34,7 +34,7 @@ pub struct Search<'a, L: Local, F: Test<L>> {
 impl<'a, L: Local, F: Test<L>> Job<Seeker<L>> for Search<'a, L, F> {
     ghost use Rattle.steal_sweep.specs.Seats.{IsSeatOf, known_by};
 
-    ghost own = { λ job position. position < job.sweep.now.total };
+    ghost own = { λ job position. (position < job.sweep.now.total) × F.needs job.sweep.now.test };
 
     ghost stands = { λ job seeker done.
         StandsFor (fit_for F.fits L.fit job.sweep.now.test) job.best.now (F.truth job.sweep.now.test) job.sweep.now.total seeker done };
@@ -44,6 +44,7 @@ impl<'a, L: Local, F: Test<L>> Job<Seeker<L>> for Search<'a, L, F> {
     /// Loads the best word, and asks the test unless that word is no greater than the position.
     fn turn(&self, seeker: &mut Seeker<L>, position: u64)
         requires own { position < self.now.sweep.now.total }
+        requires needs { F.needs self.now.sweep.now.test }
         requires fit { fit_for F.fits L.fit self.now.sweep.now.test seeker.old.local ≡ true }
         requires seat { IsSeatOf self.now.best.now seeker.old.seat }
         ensures stands { let stands = StandsFor (fit_for F.fits L.fit self.now.sweep.now.test) self.now.best.now (F.truth self.now.sweep.now.test) self.now.sweep.now.total in

@@ -1,5 +1,5 @@
 // A test beside the fact that it answers.
-ghost use Rattle.std.specs.Prelude.{◌≡◌, ℕ, ◌<◌, Bool, true};
+ghost use Rattle.std.specs.Prelude.{◌≡◌, ℕ, ◌<◌, Bool, true, ⊤};
 ghost use Rattle.steal_sweep.specs.Tests.{fit_for, MayBeCalled, LeavesFit, AnswersBy};
 
 use std::marker::PhantomData;
@@ -16,6 +16,10 @@ pub trait Test<L> {
     /// that keeps nothing fits every test.
     ghost fits: { Self → L → Bool } = { λ _ _. true };
 
+    /// What has to hold of the test wherever it is asked. It may have more than one proof, so no sweep keeps it: whoever
+    /// searches shows it.
+    ghost needs: { Self → Type 0 } = { λ _. ⊤ };
+
     /// Whether it may be called on a local and a position.
     ghost may: { Self → L → ℕ → Bool };
 
@@ -27,7 +31,8 @@ pub trait Test<L> {
 
     /// Whether the position is a hit.
     fn answer(&self, local: &mut L, position: u64) -> bool
-        requires { may self.now local.old position ≡ true }
+        requires may { may self.now local.old position ≡ true }
+        requires needs { needs self.now }
         ensures { gives self.now local.old position result local.new };
 }
 
@@ -67,6 +72,7 @@ impl<L: Local, F: Test<L>> Sweep<L, F> {
     /// The truth value at a position.
     pub(crate) fn at(&self, local: &mut L, position: u64) -> bool
         requires fit { fit_for F.fits L.fit self.now.test local.old ≡ true }
+        requires needs { F.needs self.now.test }
         requires position { position < self.now.total }
         ensures fit { fit_for F.fits L.fit self.now.test local.new ≡ true }
         ensures truth { result ≡ F.truth self.now.test position }

@@ -10,7 +10,7 @@ use Rattle.steal_sweep.proofs.Found.{stands_for_none, carried_by, parts_whole, n
 use Rattle.steal_sweep.proofs.least.least_hit.Goals as goal
 
 pub for_each-requires-clause-deal : goal.for_each-requires-clause-deal
-for_each-requires-clause-deal g c κs within = (c.args.sweep.now.total, (c.requires.deal.0, c.requires.deal.1, λ p lt. lt))
+for_each-requires-clause-deal g c κs within = (c.args.sweep.now.total, (c.requires.deal.0, c.requires.deal.1, λ p lt. (lt, c.requires.needs)))
 
 pub for_each-requires-clause-stands : goal.for_each-requires-clause-stands
 for_each-requires-clause-stands g c κs within =
