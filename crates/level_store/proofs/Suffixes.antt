@@ -4,7 +4,7 @@ use Rattle.std.proofs.lemmas.Bool.{eqb-true}
 use Rattle.coset_label.specs.Packing.{digits}
 use Rattle.coset_label.specs.Words.{RotationWord, IsShortWord, packed}
 use Rattle.coset_label.proofs.Digits.{digits_packed}
-use Rattle.coset_table.proofs.BucketLaws.{digits_below}
+use Rattle.coset_label.proofs.PackedWords.{digits_below}
 
 
 both : (a b : Bool) → (a && b) ≡ true → (a ≡ true) × (b ≡ true)
