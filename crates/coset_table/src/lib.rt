@@ -20,11 +20,11 @@ mod table;
 mod words;
 
 pub use close::Buckets;
-pub use offer::Offered;
+pub use offer::{Offered, place_behind};
 pub use rule::Shape;
 pub use start::start_table;
 pub use table::{OpenTable, TableSeat};
-pub use words::unpacked_word;
+pub use words::word_of_bucket;
 
 #[cfg(test)]
 mod tests;
