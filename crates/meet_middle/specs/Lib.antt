@@ -1,0 +1,4 @@
+pub mod Answers
+pub mod Fronts
+pub mod Kept
+pub mod Spelled
