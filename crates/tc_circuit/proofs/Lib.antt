@@ -3,3 +3,4 @@ pub mod Gates
 pub mod Cells
 pub mod Bounds
 pub mod Same
+pub mod Built

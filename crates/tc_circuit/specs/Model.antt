@@ -3,7 +3,7 @@
 use Rattle.std.specs.Prelude.{◌≡◌, ℕ, ◌+◌, ◌<◌, ◌≤◌, ◌^◌, List, [], ◌∷◌, count_by}
 use Rattle.std.specs.List.{AllByRecursion}
 use Rattle.ring_laws.specs.Ring.{power}
-use Rattle.ring_laws.specs.Matrix.{product, identity}
+use Rattle.ring_laws.specs.Matrix.{product, identity, Agree}
 use Rattle.ring_laws.specs.Cyclotomic.{cyclotomics, times, ω, root2}
 use Rattle.tc_circuit.specs.Gate.{Table, gate_table, gate_exponent, Fits, is_t, is_h}
 use Rattle.tc_circuit.specs.declared.circuit.Gate.{Gate}
@@ -21,6 +21,11 @@ after n m (g ∷ gates) = after n (record { table = product cyclotomics (2 ^ n) 
 -- the matrix of a circuit: the identity, and then its gates
 abbrev pub matrix_of : ℕ → List Gate → ScaledMatrix
 matrix_of n gates = after n (record { table = identity cyclotomics; exponent = 0 }) gates
+
+-- a matrix with the exponent and the entries of a circuit's matrix
+pub record IsMatrixOf (n : ℕ) (gates : List Gate) (m : ScaledMatrix) : Type 0 where
+  pub exponent : m.exponent ≡ (matrix_of n gates).exponent
+  pub table : Agree cyclotomics (2 ^ n) m.table (matrix_of n gates).table
 
 -- a circuit on n qubits: any finite list of gates of n qubits
 abbrev pub IsCircuit : ℕ → List Gate → Type 0

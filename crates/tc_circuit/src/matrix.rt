@@ -1,4 +1,4 @@
-ghost use Rattle.std.specs.Prelude.{◌≡◌, ℕ, ◌+◌, ◌*◌, ◌^◌, ◌<◌, ◌≤◌, length, slice_index_or, if◌then◌else◌, ◌==◌, ◌≢◌, IsTrue, IfOk};
+ghost use Rattle.std.specs.Prelude.{◌≡◌, ℕ, ◌+◌, ◌*◌, ◌^◌, ◌<◌, ◌≤◌, List, [], ◌∷◌, ◌++◌, length, slice_index_or, if◌then◌else◌, ◌==◌, ◌≢◌, IsTrue, IfOk};
 ghost use Rattle.tc_ring.specs.Bounds.{IsWithin};
 ghost use Rattle.ring_laws.specs.Cyclotomic.{times, cyclotomics, ω, one_number};
 ghost use Rattle.ring_laws.specs.Ring.{power};
@@ -7,6 +7,7 @@ ghost use Rattle.ring_laws.specs.Matrix.{product, Agree, identity};
 ghost use Rattle.tc_circuit.specs.Bits.{has_bit, flipped, crossed};
 ghost use Rattle.tc_circuit.specs.Gate.{gate_table, gate_exponent, Fits};
 ghost use Rattle.tc_circuit.specs.Grid.{entries, no_cell, ColumnWithin};
+ghost use Rattle.tc_circuit.specs.Model.{IsMatrixOf};
 
 use crate::Gate;
 use std::alloc::{AllocError, Global};
@@ -207,7 +208,9 @@ impl Model for Matrix {
 }
 
 impl Matrix {
-    ghost use Rattle.tc_circuit.specs.Grid.{table_of};
+    ghost use Rattle.tc_circuit.specs.Grid.{table_of, scaled};
+    ghost use Rattle.tc_circuit.specs.declared.circuit.Gate.{Gate};
+
     /// The identity on n qubits, with exponent 0.
     pub fn identity(alloc: Global, n: u8) -> Result<Matrix, AllocError>
         requires some { 0 < n }
@@ -215,6 +218,7 @@ impl Matrix {
         ensures qubits { IfOk result (λ m. m.qubits ≡ n) }
         ensures exponent { IfOk result (λ m. m.exponent ≡ 0) }
         ensures table { IfOk result (λ m. Agree cyclotomics (2 ^ n) (table_of m) (identity cyclotomics)) }
+        ensures built { IfOk result (λ m. IsMatrixOf n [] (scaled m)) }
     {
         let cells = identity_cells(alloc, n)?;
         Ok(Matrix { n, k: 0, cells })
@@ -227,6 +231,8 @@ impl Matrix {
         ensures qubits { self.new.qubits ≡ self.old.qubits }
         ensures exponent { self.new.exponent ≡ gate_exponent gate + self.old.exponent }
         ensures table { Agree cyclotomics (2 ^ self.old.qubits) (table_of self.new) (product cyclotomics (2 ^ self.old.qubits) (gate_table gate) (table_of self.old)) }
+        ensures built { (gates : List Gate) → IsMatrixOf self.old.qubits gates (scaled self.old)
+            → IsMatrixOf self.old.qubits (gates ++ gate ∷ []) (scaled self.new) }
     {
         change_cells(&mut self.cells, self.n, gate);
         if let Gate::H(_) = gate {
