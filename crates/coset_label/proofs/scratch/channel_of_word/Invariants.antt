@@ -2,7 +2,7 @@ use Rattle.std.proofs.Common.{◌≡◌, ◌+◌, length, drop}
 use Rattle.channel_rep.specs.Cells.{scaled}
 use Rattle.channel_rep.specs.Tables.{IsBuiltOf}
 use Rattle.coset_label.specs.Words.{word_steps}
-use Rattle.coset_label.proofs.scratch.make_channel.Given as goal
+use Rattle.coset_label.proofs.scratch.channel_of_word.Given as goal
 
 abbrev pub invariant-loop-left : goal.invariant-loop-left
 invariant-loop-left l = record {

@@ -3,7 +3,7 @@ use Rattle.channel_rep.specs.Cells.{scaled}
 use Rattle.channel_rep.specs.Tables.{Step, IsBuiltOf}
 use Rattle.coset_label.specs.Words.{word_steps}
 use Rattle.coset_label.proofs.WordSteps.{steps_more}
-use Rattle.coset_label.proofs.scratch.make_channel.Goals as goal
+use Rattle.coset_label.proofs.scratch.channel_of_word.Goals as goal
 
 pub loop-left-preserved : goal.loop-left-preserved
 loop-left-preserved c = record {
