@@ -8,3 +8,5 @@ pub mod Cut
 pub mod Takeable
 pub mod Outcomes
 pub mod Names
+mod Small
+mod Halving

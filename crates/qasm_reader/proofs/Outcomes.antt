@@ -45,11 +45,11 @@ stated_is (ws ∷ wss) (p ∷ ps) e f =
     cc (one, more)
 
 -- a text has one list of lexemes
-lexemes_same : (text : List ℕ) (ws vs : List Lexeme) → HasLexemes text ws → HasLexemes text vs → ws ≡ vs
+pub lexemes_same : (text : List ℕ) (ws vs : List Lexeme) → HasLexemes text ws → HasLexemes text vs → ws ≡ vs
 lexemes_same text ws vs a b = a.2 ∙ ap (map (lexeme_of text)) (tokens_unique text a.0 b.0 a.1 b.1) ∙ sym b.2
 
 -- a text with a bad byte has no lexemes
-no_lexemes : (text : List ℕ) (p : ℕ) (ws : List Lexeme) → Bad text p → HasLexemes text ws → ⊥
+pub no_lexemes : (text : List ℕ) (p : ℕ) (ws : List Lexeme) → Bad text p → HasLexemes text ws → ⊥
 no_lexemes text p ws b w = never_both text w.0 p w.1 b
 
 -- a header is three lexemes

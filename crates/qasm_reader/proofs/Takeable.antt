@@ -150,7 +150,7 @@ circuit_placed n qs [] b t f = tt
 circuit_placed n qs (g ∷ gs) b t f = (placed_fits n qs g b t f.0, circuit_placed n qs gs b t f.1)
 
 -- gates of two circuits are a circuit
-circuit_append : (n : ℕ) (xs ys : List Gate) → IsCircuit n xs → IsCircuit n ys → IsCircuit n (xs ++ ys)
+pub circuit_append : (n : ℕ) (xs ys : List Gate) → IsCircuit n xs → IsCircuit n ys → IsCircuit n (xs ++ ys)
 circuit_append n [] ys a b = b
 circuit_append n (x ∷ xs) ys a b = (a.0, circuit_append n xs ys a.1 b)
 

@@ -6,6 +6,7 @@ pub mod Limits
 pub mod Refusals
 pub mod Rows
 pub mod Read
+pub mod Halves
 pub mod Parse
 pub mod View
 pub mod Run

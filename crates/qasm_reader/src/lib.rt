@@ -17,13 +17,15 @@ mod forms;
 mod gates;
 mod laws;
 mod lexemes;
+mod openings;
 mod reading;
 mod refusal;
 mod rows;
 mod scan;
 
 pub use fault::ReadFault;
-pub use laws::one_reading;
+pub use laws::{one_halving, one_reading, read_circuits_are_small};
+pub use openings::halves;
 pub use reading::read;
 
 #[cfg(test)]
