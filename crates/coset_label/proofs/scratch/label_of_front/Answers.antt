@@ -2,7 +2,7 @@ use Rattle.std.proofs.Common.{rules, ◌≡◌, ℕ, Bool, List, ◌∷◌, ◌+
 use Rattle.std.proofs.Math.Seq.{take-append_seam}
 use Rattle.channel_rep.specs.Cells.{scaled}
 use Rattle.channel_rep.specs.Tables.{IsBuiltOf}
-use Rattle.coset_label.specs.Labels.{IsLabelOf, IsLabelOfWord}
+use Rattle.coset_label.specs.Labels.{IsLabelOf}
 use Rattle.coset_label.specs.Scratch.{HeldLabel, kept_label}
 use Rattle.coset_label.specs.Words.{word_steps}
 use Rattle.coset_label.proofs.scratch.label_of_front.Goals as goal

@@ -1,4 +1,3 @@
-use Rattle.std.proofs.Common.{◌≡◌, ℕ, ◌<◌, ◌≤◌, sym, subst}
 use Rattle.coset_label.proofs.WordChannels.{label_tells_word, equal_is_label, equal_is_coset}
 use Rattle.coset_label.proofs.scratch.lies_in.Goals as goal
 
