@@ -1,0 +1,5 @@
+pub mod Answers
+pub mod Decided
+pub mod Fronts
+pub mod Kept
+pub mod Spelled
