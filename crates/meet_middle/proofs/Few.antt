@@ -11,7 +11,7 @@ use Rattle.coset_label.specs.Words.{RotationWord}
 
 pub words_few : (n k : ℕ) (l : Level) → IsStored n k l → length (words_of l) ≤ 16777216
 words_few n k l stored =
-    let few : length (letters_in l) ≤ 16777216 = level_few n stored.some stored.few k (letters_in l) stored.level stored.short in
+    let few : length (letters_in l) ≤ 16777216 = level_few n stored.some stored.few k stored.short (letters_in l) stored.level in
     omega (arith, length-map (words_of l) (λ (w : RotationWord). w.letters))
 
 pub product_few : (count letters : ℕ) → count ≤ 16777216 → letters ≤ 63 → count * letters ≤ 1056964608

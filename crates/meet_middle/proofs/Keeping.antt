@@ -1,15 +1,18 @@
 -- What a worker keeps is told by its cells.
-use Rattle.std.proofs.Common.{◌≡◌, ℕ, ◌^◌, ◌%◌, ◌<◌, Bool, true, ◌==◌, ◌&&◌, ◌||◌, ltb, nat_abs, List, refl}
+use Rattle.std.proofs.Common.{◌≡◌, ℕ, ◌^◌, ◌%◌, ◌<◌, Bool, true, ◌==◌, ◌&&◌, ◌||◌, ltb, nat_abs, List, refl, ap}
 use Rattle.std.specs.Bool.{Decides}
-use Rattle.std.proofs.lemmas.Bool.Decides.{Decides-like, Decides-and, Decides-or, Decides-eqb, Decides-ltb, Decides-below_and, Decides-below_or}
+use Rattle.std.proofs.lemmas.Bool.Decides.{Decides-like, Decides-and, Decides-or, Decides-eqb, Decides-int_eq, Decides-ltb, Decides-below_and, Decides-below_or}
 use Rattle.ring_laws.specs.Ring.{power}
 use Rattle.tc_ring.specs.Surds.{Surd, surds, surd_times, root2_surd, IsOdd}
+use Rattle.tc_ring.proofs.Surds.{same_surd as surds_same}
 use Rattle.channel_rep.specs.Cells.{ChannelGrid, HasOddCell, IsReduced, scaled, table_of}
 use Rattle.channel_rep.specs.Tables.{ScaledTable, SameTable}
 use Rattle.level_laws.specs.Levels.{removed}
-use Rattle.meet_middle.specs.Decided.{at_all, at_some, same_surd}
+use Rattle.coset_label.specs.Decided.{at_all, at_some, same_surd}
 use Rattle.meet_middle.specs.Kept.{same_table, is_reduced, IsKept, is_kept}
-use Rattle.meet_middle.proofs.Deciding.{surd_decided}
+
+surd_decided : (x y : Surd) → Decides (same_surd x y) (x ≡ y)
+surd_decided x y = Decides-like (same_surd x y) (λ both. surds_same {x = x} {y = y} both.0 both.1) (λ e. (ap (λ s. s.a) e, ap (λ s. s.b) e)) (Decides-and _ _ (Decides-int_eq x.a y.a) (Decides-int_eq x.b y.b))
 
 pub same_table_decided : (n : ℕ) (a b : ScaledTable) → Decides (same_table n a b) (SameTable n a b)
 unfolding same_table

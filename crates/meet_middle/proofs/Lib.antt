@@ -1,9 +1,7 @@
-pub mod Deciding
 pub mod Few
 pub mod Halving
 pub mod Keeping
 pub mod Numbers
 pub mod Removing
 pub mod Resting
-pub mod Standing
 pub mod Totals

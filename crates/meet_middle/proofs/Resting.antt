@@ -11,17 +11,18 @@ use Rattle.coset_label.specs.Words.{RotationWord}
 use Rattle.level_laws.specs.Levels.{IsLevel, IsFound, StandsIn, removed}
 use Rattle.level_laws.proofs.Exponents.{none_past}
 use Rattle.level_laws.proofs.Follow.{off_circuit}
-use Rattle.level_laws.proofs.Meeting.{meets_in_coset}
-use Rattle.level_laws.proofs.Positions.{even_fronts}
-use Rattle.level_laws.proofs.Removed.{found_of_same, removed_step}
+use Rattle.meet_laws.proofs.Meeting.{meets_in_coset}
+use Rattle.level_laws.proofs.Positions.{even_front}
+use Rattle.level_laws.proofs.Finding.{found_of_same}
+use Rattle.level_laws.proofs.Removed.{removed_step}
 use Rattle.level_store.specs.declared.level.Level.{Level}
 use Rattle.level_store.specs.Stored.{Finds, FindsLabel, IsStored, qubits_of, len_of}
 use Rattle.meet_middle.proofs.Removing.{remove_letter}
 
 -- a look tells of each table of the same value
-pub finds_of_same : (n k : ℕ) (a b : ScaledTable) → SameTable n b a → (r : Option RotationWord) → Finds n k a r → Finds n k b r
+pub finds_of_same : (n k : ℕ) (a b : ScaledTable) → SameTable n a b → (r : Option RotationWord) → Finds n k a r → Finds n k b r
 finds_of_same n k a b same (Some w) h = (h.0, found_of_same n k a b w.letters same h.1)
-finds_of_same n k a b same None h = λ found. h (found.0, found_of_same n k b a found.0 (same_table_sym n b a same) found.1)
+finds_of_same n k a b same None h = λ found. h (found.0, found_of_same n k b a found.0 (same_table_sym n a b same) found.1)
 
 -- a rest is a circuit's channel
 pub rest_circuit : (n : ℕ) → 0 < n → n ≤ 3 → (rest target : ScaledTable) (word : List ℕ) → IsWord n word → SameTable n rest (removed n target word) → IsCircuitChannel n target → IsCircuitChannel n rest
@@ -31,7 +32,7 @@ rest_circuit n some few rest target word good same circuit =
 
 -- a word of a level is a word
 pub level_word_is : (n : ℕ) → 0 < n → n ≤ 3 → (h : ℕ) (words : List (List ℕ)) → IsLevel n h words → (i : ℕ) → i < length words → IsWord n (slice_index_or words i [])
-level_word_is n some few h words level i l = (even_fronts n some few h words level).word i l
+level_word_is n some few h words level i l = (even_front n h words level i l).word
 
 -- one letter more taken off, without the channel's own work
 pub one_letter_off : (n : ℕ) (kept target : ScaledTable) (word : List ℕ) (p : ℕ) → SameTable n kept (removed n target word) → SameTable n (removed n kept (p ∷ [])) (removed n target (word ++ p ∷ []))
@@ -62,7 +63,7 @@ word_off n target copied off rest word q is q1 table value =
 pub past_letter : (n : ℕ) → 0 < n → n ≤ 3 → (kept : ScaledTable) → HasLeastExponent n kept → (half p : ℕ) → (p < 4 ^ n) × (p ≢ 0) → half + 1 < kept.exponent
     → (target : ScaledTable) (word : List ℕ) → SameTable n kept (removed n target word) → StandsIn n half (removed n target (word ++ p ∷ [])) → ⊥
 past_letter n some few kept least half p good l target word same found =
-    let here : IsFound n half (removed n kept (p ∷ [])) found.0 = found_of_same n half _ _ found.0 (one_letter_off n kept target word p same) found.1 in
+    let here : IsFound n half (removed n kept (p ∷ [])) found.0 = found_of_same n half _ _ found.0 (same_table_sym n _ _ (one_letter_off n kept target word p same)) found.1 in
     none_past n kept least (half + 1) l (p ∷ found.0) (meets_in_coset n some few kept half (p ∷ []) found.0 (good, tt) here) (omega (arith, here.level.letters))
 
 -- a look into a stored level, by the level's own numbers

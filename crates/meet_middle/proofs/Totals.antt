@@ -1,12 +1,15 @@
 -- The totals of the search, by the truth values of their fronts.
-use Rattle.std.proofs.Common.{◌≡◌, ℕ, Bool, true, false, ◌+◌, ◌<◌, ◌≤◌, List, ◌++◌, length, Decides, sym, ◌∙◌, subst, true≢false}
+use Rattle.std.proofs.Common.{◌≡◌, ℕ, Bool, true, false, ◌+◌, ◌<◌, ◌≤◌, List, ◌++◌, length, Option, Some, None, is_some, Decides, sym, ◌∙◌, true≢false}
+use Rattle.std.specs.Bool.{one_answer}
+use Rattle.coset_label.specs.Words.{RotationWord}
+use Rattle.level_store.specs.Stored.{Finds}
 use Rattle.channel_rep.specs.Tables.{ScaledTable}
-use Rattle.level_laws.specs.Laws.{TellsTotal}
-use Rattle.level_laws.specs.Levels.{IsLevel, IsLeastWord, NoneBelow, Meets, removed}
-use Rattle.level_laws.proofs.Totals.{even_total, odd_total}
+use Rattle.meet_laws.specs.Laws.{TellsTotal}
+use Rattle.level_laws.specs.Levels.{has_word, IsLevel, IsLeastWord, NoneBelow, Meets, removed}
+use Rattle.meet_laws.proofs.Totals.{even_total, odd_total}
 use Rattle.steal_sweep.specs.Searches.{IsLeastHit}
 use Rattle.meet_middle.specs.Fronts.{front_of, fronts_of, front_meets, total_of}
-use Rattle.meet_middle.proofs.Standing.{stands_decided}
+use Rattle.level_laws.proofs.AllWords.{stands_decided}
 
 module _ (n : ℕ) (some : 0 < n) (few : n ≤ 3) (h : ℕ) (words : List (List ℕ)) (level : IsLevel n h words) (m : ScaledTable) where
   pub meets_decided : (odd : Bool) (i : ℕ) → Decides (front_meets n words odd m i) ((b : List ℕ) × Meets n m h (front_of n words odd i) b)
@@ -32,3 +35,8 @@ module _ (n : ℕ) (some : 0 < n) (few : n ≤ 3) (h : ℕ) (words : List (List 
   pub long_hit : (odd : Bool) → NoneBelow n m (total_of h odd) → (p : ℕ) → p < fronts_of n words odd
       → (b : List ℕ) → Meets n m h (front_of n words odd p) b → length (front_of n words odd p ++ b) ≡ total_of h odd
   long_hit odd none p l b meets = (tells odd none).long p l b meets
+
+-- a look into a level tells whether one of its words is in the coset of a table
+pub look_tells : (n k : ℕ) (words : List (List ℕ)) → IsLevel n k words → (m : ScaledTable) (r : Option RotationWord) → Finds n k m r → is_some r ≡ has_word n m words
+look_tells n k words level m (Some w) h = sym ((stands_decided n k words level m).1 (w.letters, h.1))
+look_tells n k words level m None h = one_answer false (has_word n m words) (λ e. absurd (true≢false (sym e)), λ found. absurd (h found)) (stands_decided n k words level m)

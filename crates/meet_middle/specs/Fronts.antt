@@ -1,10 +1,7 @@
 -- The fronts of a total, and whether one meets the level.
 use Rattle.std.specs.Prelude.{ℕ, ◌+◌, ◌-◌, ◌*◌, ◌/◌, ◌^◌, Bool, true, false, List, [], ◌∷◌, length, slice_index_or}
-use Rattle.std.specs.List.{list_any}
 use Rattle.channel_rep.specs.Tables.{ScaledTable}
-use Rattle.coset_label.specs.Words.{word_channel}
-use Rattle.level_laws.specs.Levels.{letter_at, front_at, removed}
-use Rattle.meet_middle.specs.Decided.{in_one_coset}
+use Rattle.level_laws.specs.Levels.{has_word, letter_at, front_at, removed}
 
 -- a total: two halves of so many letters, and one letter between them where it is odd
 abbrev pub total_of : ℕ → Bool → ℕ
@@ -31,10 +28,6 @@ abbrev pub middle_of : ℕ → Bool → ℕ → List ℕ
 middle_of n true position = letter_at n position ∷ []
 middle_of n false position = []
 
--- whether a table is in the coset of some word of a list
-unfoldable pub stands_among : ℕ → List (List ℕ) → ScaledTable → Bool
-stands_among n words m = list_any (λ w. in_one_coset n m (word_channel n w)) words
-
--- whether the rest behind the front of a position stands among the words
+-- whether the rest behind the front of a position is in the coset of one of the words
 unfoldable pub front_meets : ℕ → List (List ℕ) → Bool → ScaledTable → ℕ → Bool
-front_meets n words odd target position = stands_among n words (removed n target (front_of n words odd position))
+front_meets n words odd target position = has_word n (removed n target (front_of n words odd position)) words

@@ -7,7 +7,7 @@ use Rattle.channel_rep.specs.Tables.{ScaledTable, SameTable, IsCircuitChannel}
 use Rattle.level_laws.specs.Levels.{removed}
 use Rattle.level_store.specs.declared.level.Level.{Level}
 use Rattle.level_store.specs.Stored.{IsStored}
-use Rattle.meet_middle.specs.Decided.{at_all, at_some, same_surd}
+use Rattle.coset_label.specs.Decided.{at_all, at_some, same_surd}
 
 -- whether two tables have the same entries, both brought to one power of √2
 unfoldable pub same_table : ℕ → ScaledTable → ScaledTable → Bool

@@ -34,7 +34,7 @@ invariant_of-result g c =
     let rest = removed n (scaled c.args.target.now) (front_of n (letters_in c.args.level.now) c.args.odd c.args.position) in
     let found = subst (λ (o : Option RotationWord). Finds n half rest o) c.in-Some.is c.look.ensures.finds in
     let below = subst (λ (k : ℕ). k < length (words_of c.args.level.now)) (sym c.front-number.ensures.number) (number_below n c.args.level.now c.args.odd c.args.position c.requires.below) in
-    let first = word_qubits n (words_of c.args.level.now) c.front-number.result.0 c.word.result below c.word.ensures c.requires.asked.stored.words in
+    let first = word_qubits n (words_of c.args.level.now) c.front-number.result.0 c.word.result below c.word.ensures.word c.requires.asked.stored.words in
     let middle = λ (p : PauliString) (is : c.front-number.result.1 ≡ Some p). subst (λ (o : Option PauliString). IfSome o (λ q. (q.qubits ≡ n) × (q.code < 4 ^ n) × (q.code ≢ 0))) is c.front-number.ensures.middle in
     record {
       qubits = first ∙ sym found.0;
@@ -46,7 +46,7 @@ pub returns-clause-qubits : goal.returns-clause-qubits
 returns-clause-qubits g c =
     let n = g.row.N in
     let below = subst (λ (k : ℕ). k < length (words_of c.args.level.now)) (sym c.front-number.ensures.number) (number_below n c.args.level.now c.args.odd c.args.position c.requires.below) in
-    word_qubits n (words_of c.args.level.now) c.front-number.result.0 c.word.result below c.word.ensures c.requires.asked.stored.words
+    word_qubits n (words_of c.args.level.now) c.front-number.result.0 c.word.result below c.word.ensures.word c.requires.asked.stored.words
 
 pub returns-clause-meets : goal.returns-clause-meets
 returns-clause-meets g c =
@@ -63,5 +63,5 @@ returns-clause-spelled g c =
     let middle = middle_letters c.front-number.result.1 in
     let last = c.in-Some.last.letters in
     let below = subst (λ (k : ℕ). k < length (words_of level)) (sym c.front-number.ensures.number) (number_below n level c.args.odd c.args.position c.requires.below) in
-    let front = front_spelled n (letters_in level) c.args.odd c.args.position number first.letters middle (word_letters level number first below c.word.ensures) c.front-number.ensures.number c.front-number.ensures.letters in
+    let front = front_spelled n (letters_in level) c.args.odd c.args.position number first.letters middle (word_letters level number first below c.word.ensures.word) c.front-number.ensures.number c.front-number.ensures.letters in
     sym (append_assoc first.letters middle last) ∙ ap (λ (w : List ℕ). w ++ last) front

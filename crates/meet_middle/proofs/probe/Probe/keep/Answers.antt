@@ -21,7 +21,7 @@ returns-then-eq-clause-kept g c =
 
 pub remove-requires-clause-same : goal.remove-requires-clause-same
 remove-requires-clause-same g c =
-    let word = word_qubits g.row.N (words_of c.args.level.now) c.args.number c.word-word.result c.requires.below c.word-word.ensures c.requires.words in
+    let word = word_qubits g.row.N (words_of c.args.level.now) c.args.number c.word-word.result c.requires.below c.word-word.ensures.word c.requires.words in
     word ∙ sym (ap (λ (m : ChannelGrid). m.qubits) c.copy_from.ensures ∙ c.requires.target)
 
 pub returns-clause-kept : goal.returns-clause-kept
@@ -30,7 +30,7 @@ returns-clause-kept g c =
     let target = c.args.target.now in
     let rest = c.reduce.new.self in
     let word = c.word-word.result in
-    let letters = word_letters c.args.level.now c.args.number word c.requires.below c.word-word.ensures in
+    let letters = word_letters c.args.level.now c.args.number word c.requires.below c.word-word.ensures.word in
     let off = word_off n target c.copy_from.new.self c.remove.new.channel rest word.letters c.requires.target c.copy_from.ensures c.remove.ensures.qubits c.remove.ensures.table c.reduce.ensures.value in
     record {
       qubits = c.reduce.ensures.qubits ∙ (c.remove.ensures.qubits ∙ (ap (λ (m : ChannelGrid). m.qubits) c.copy_from.ensures ∙ c.requires.target));

@@ -2,7 +2,7 @@ use Rattle.std.proofs.Common.{◌≡◌, ◌≢◌, ℕ, ◌^◌, ◌<◌, ◌�
 use Rattle.std.proofs.lemmas.List.{append-nil}
 use Rattle.channel_rep.specs.Cells.{ChannelGrid, scaled}
 use Rattle.channel_rep.specs.Tables.{ScaledTable, SameTable, IsCircuitChannel}
-use Rattle.channel_rep.proofs.Built.{same_table_refl, same_table_sym}
+use Rattle.channel_rep.proofs.Built.{same_table_refl}
 use Rattle.coset_label.specs.Labels.{HasLeastExponent}
 use Rattle.level_laws.proofs.Exponents.{reduced_least}
 use Rattle.level_laws.specs.Levels.{StandsIn, removed}
@@ -52,7 +52,7 @@ returns-else-exponent-half-clause-finds g c =
     let off = letter_off n kept c.copy_from.new.self c.left_rotation_inverse.new.self rest c.in-Some.letter.code q c.copy_from.ensures c.left_rotation_inverse.ensures.qubits c.left_rotation_inverse.ensures.exponent c.left_rotation_inverse.ensures.table c.reduce.ensures.value target word same in
     let finds = subst (λ (k : ℕ). Finds k c.args.half (scaled rest) c.find_rest.result) at c.find_rest.ensures.finds in
     subst (λ (o : Option PauliString). Finds n c.args.half (removed n target (word ++ middle_letters o)) c.find_rest.result) (sym c.in-Some.is)
-    (finds_of_same n c.args.half (scaled rest) _ (same_table_sym n (scaled rest) _ off) c.find_rest.result finds)
+    (finds_of_same n c.args.half (scaled rest) _ off c.find_rest.result finds)
 
 pub returns-in-None-clause-finds : goal.returns-in-None-clause-finds
 returns-in-None-clause-finds g c =
@@ -61,6 +61,6 @@ returns-in-None-clause-finds g c =
     let kept = c.args.self.now.kept in
     let q : kept.qubits ≡ n = search rules in
     let finds = subst (λ (k : ℕ). Finds k c.args.half (scaled kept) c.find_rest-in-None.result) q c.find_rest-in-None.ensures.finds in
-    let whole = finds_of_same n c.args.half (scaled kept) (removed n target word) (same_table_sym n (scaled kept) (removed n target word) same) c.find_rest-in-None.result finds in
+    let whole = finds_of_same n c.args.half (scaled kept) (removed n target word) same c.find_rest-in-None.result finds in
     subst (λ (o : Option PauliString). Finds n c.args.half (removed n target (word ++ middle_letters o)) c.find_rest-in-None.result) (sym c.in-None.is)
     (subst (λ (w : List ℕ). Finds n c.args.half (removed n target w) c.find_rest-in-None.result) (sym (append-nil word)) whole)

@@ -3,7 +3,7 @@ use Rattle.channel_rep.specs.Cells.{scaled}
 use Rattle.level_laws.specs.Levels.{removed}
 use Rattle.level_store.specs.Stored.{letters_in}
 use Rattle.meet_middle.specs.Fronts.{front_of, front_meets}
-use Rattle.meet_middle.proofs.Standing.{look_tells}
+use Rattle.meet_middle.proofs.Totals.{look_tells}
 use Rattle.meet_middle.proofs.search.FrontsTestProbe.answer.Goals as goal
 
 pub returns : goal.returns
