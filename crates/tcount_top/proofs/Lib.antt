@@ -4,3 +4,5 @@ pub mod Printing
 pub mod Outcomes
 pub mod Answering
 pub mod Counts
+pub mod Once
+pub mod OneOutcome

@@ -13,6 +13,8 @@ mod lines;
 mod print;
 mod sizes;
 mod synth;
+#[cfg(test)]
+mod tests;
 pub mod top;
 
 pub use print::printed;
