@@ -1,6 +1,5 @@
 -- Lists by their sums: one whose sums are as great as another's has its elements, and one with the same sums is a permutation of it.
--- Crates above cite this module.
-use Rattle.std.proofs.Common.{◌≡◌, ℕ, ◌==◌, ◌&&◌, ◌<◌, ◌≤◌, Bool, true, false, cond, List, [], ◌∷◌, ◌++◌, filter, IsPermutation, refl, sym, ap, ◌∙◌, subst, arith}
+use Rattle.std.proofs.Common.{◌≡◌, ℕ, ◌==◌, ◌&&◌, ◌<◌, ◌≤◌, Bool, true, false, cond, List, [], ◌∷◌, ◌++◌, IsPermutation, refl, sym, ap, ◌∙◌, subst, arith}
 use Rattle.std.specs.List.{sum_by}
 use Rattle.std.proofs.lemmas.List.{append-nil}
 use Rattle.std.proofs.lemmas.List.Sums.{sum_by-cons, sum_by-append}
@@ -62,29 +61,6 @@ module _ {X : Type 0} (same : X → X → Bool) (tells : Tells same) where
       empty : (zs : List X) → sum_by (λ _. 1) zs ≡ 0 → zs ≡ []
       empty [] e = refl
       empty (z ∷ zs) e = absurd (let one : X → ℕ = λ _. 1 in omega (arith, sum_by-cons one z zs))
-
-  -- ---- a filter
-  -- a weight of what passes, as one of all
-  abbrev passing : (X → Bool) → (X → ℕ) → X → ℕ
-  passing test weight x = cond (test x) (weight x) 0
-
-  filter_first : (test : X → Bool) (weight : X → ℕ) (x : X) (xs : List X) (b : Bool) → test x ≡ b → sum_by weight (filter test xs) ≡ sum_by (passing test weight) xs
-      → sum_by weight (filter test (x ∷ xs)) ≡ sum_by (passing test weight) (x ∷ xs)
-  filter_first test weight x xs true e rest =
-      ap (λ b. sum_by weight (cond b (x ∷ filter test xs) (filter test xs))) e
-      ∙ omega (arith, sum_by-cons weight x (filter test xs), sum_by-cons (passing test weight) x xs, rest, ap (λ b. cond b (weight x) 0) e)
-  filter_first test weight x xs false e rest =
-      ap (λ b. sum_by weight (cond b (x ∷ filter test xs) (filter test xs))) e ∙ omega (arith, sum_by-cons (passing test weight) x xs, rest, ap (λ b. cond b (weight x) 0) e)
-
-  sum_by-filter : (test : X → Bool) (weight : X → ℕ) (xs : List X) → sum_by weight (filter test xs) ≡ sum_by (passing test weight) xs
-  sum_by-filter test weight [] = refl
-  sum_by-filter test weight (x ∷ xs) = filter_first test weight x xs (test x) refl (sum_by-filter test weight xs)
-
-  -- elements in another order pass in another order
-  pub filter-permuted : (test : X → Bool) (xs ys : List X) → IsPermutation xs ys → IsPermutation (filter test xs) (filter test ys)
-  filter-permuted test xs ys moved =
-      permuted (filter test xs) (filter test ys) (λ weight.
-      sum_by-filter test weight xs ∙ (sym (sum_by-IsPermutation (passing test weight) xs ys moved) ∙ sym (sum_by-filter test weight ys)))
 
 -- numbers are told apart by their test
 pub tells_numbers : Tells (λ (a b : ℕ). a == b)
