@@ -3,6 +3,5 @@ pub mod Letters
 pub mod Printing
 pub mod Outcomes
 pub mod Answering
-pub mod Counts
 pub mod Once
 pub mod OneOutcome

@@ -5,7 +5,6 @@ ghost use Rattle.level_laws.specs.Levels.{level};
 ghost use Rattle.level_store.specs.Stored.{AreLevels, levels_of, qubits_of_all};
 ghost use Rattle.tcount_top.specs.Lines.{levels_line};
 
-use level_laws::laws::levels_are_lists;
 use level_store::Levels;
 use std::alloc::{AllocError, Global};
 use std::fmt::Write;
@@ -43,7 +42,6 @@ fn size_of(levels: &Levels, k: u8) -> u64
     requires height { k < length (levels_of levels.now) }
     ensures { result ≡ length (level (qubits_of_all levels.now) k) }
 {
-    levels_are_lists();
     let level = levels.level(k);
     level.count()
 }
