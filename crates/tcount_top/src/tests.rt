@@ -356,13 +356,12 @@ fn toffoli(rt: HostRuntime) -> Result<(), Fail> {
 #[test]
 fn made_circuits(rt: HostRuntime) -> Result<(), Fail> {
     for seed in 0..200u64 {
-        let (text, count) = made::circuit(rt.alloc(), seed)?;
-        let bound = format!(in rt.alloc(); "{count}")?;
-        let words = ["synth", bound.as_str(), "1"];
+        let (text, bound) = made::circuit(rt.alloc(), seed)?;
+        let words = ["synth", bound, "1"];
         let (status, bytes) = answer(&rt, rt.alloc(), &words, &text, &OpenWay)?;
         assert_eq!(rt; status, Status::Found, "seed {seed}");
         for workers in ["1", "2", "3", "8"] {
-            let words = ["synth", bound.as_str(), workers];
+            let words = ["synth", bound, workers];
             let (_, again) = answer(&rt, rt.alloc(), &words, &bytes, &OpenWay)?;
             assert!(rt;
                 again.as_slice() == bytes.as_slice(),

@@ -47,8 +47,20 @@ fn qubits_by(seed: u64) -> u64
     if seed % 2 == 0 { 2 } else { 3 }
 }
 
-/// The text of a circuit by a seed: on two qubits with at most four T gates, or on three with at most three.
-pub fn circuit(alloc: Global, seed: u64) -> Result<(Vec<u8>, u64), AllocError> {
+/// A number up to 4 as a word.
+fn word_of(number: u64) -> &'static str {
+    match number {
+        0 => "0",
+        1 => "1",
+        2 => "2",
+        3 => "3",
+        _ => "4",
+    }
+}
+
+/// The text of a circuit by a seed, on two qubits with at most four T gates, or on three with at most three; and how many it
+/// has, as a word.
+pub fn circuit(alloc: Global, seed: u64) -> Result<(Vec<u8>, &'static str), AllocError> {
     let qubits = qubits_by(seed);
     let count = mixed(seed, 0) % (7 - qubits);
     let mut text = format!(in alloc; "OPENQASM 2.0;\nqreg q[{qubits}];\n")?;
@@ -56,5 +68,5 @@ pub fn circuit(alloc: Global, seed: u64) -> Result<(Vec<u8>, u64), AllocError> {
         push_layer(&mut text, qubits, seed, number)?;
     }
     push_clifford(&mut text, qubits, mixed(seed, count))?;
-    Ok((text.into_bytes(), count))
+    Ok((text.into_bytes(), word_of(count)))
 }
