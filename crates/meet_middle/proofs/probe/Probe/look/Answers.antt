@@ -7,7 +7,7 @@ use Rattle.std.proofs.lemmas.List.{length-map}
 use Rattle.coset_label.specs.Words.{RotationWord}
 use Rattle.meet_middle.specs.Fronts.{front_of, number_of, middle_of}
 use Rattle.meet_middle.specs.Kept.{IsKept, keeps}
-use Rattle.meet_middle.specs.Spelled.{middle_letters}
+use Rattle.meet_middle.specs.Halves.{middle_letters}
 use Rattle.meet_middle.proofs.Halving.{front_parts, number_below}
 use Rattle.meet_middle.proofs.Keeping.{kept_decided}
 use Rattle.meet_middle.proofs.Resting.{rest_circuit, level_word_is}

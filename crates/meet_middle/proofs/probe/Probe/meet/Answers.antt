@@ -8,7 +8,7 @@ use Rattle.level_laws.proofs.Exponents.{reduced_least}
 use Rattle.level_laws.specs.Levels.{StandsIn, removed}
 use Rattle.level_store.specs.Stored.{Finds}
 use Rattle.pauli_basis.specs.Pauli.{PauliString}
-use Rattle.meet_middle.specs.Spelled.{middle_letters}
+use Rattle.meet_middle.specs.Halves.{middle_letters}
 use Rattle.meet_middle.proofs.Resting.{finds_of_same, rest_circuit, letter_off, past_letter}
 use Rattle.meet_middle.proofs.probe.Probe.meet.Goals as goal
 
