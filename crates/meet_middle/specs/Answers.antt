@@ -2,7 +2,7 @@
 use Rattle.std.specs.Prelude.{◌≡◌, ℕ, ◌+◌, ◌≤◌, length}
 use Rattle.channel_rep.specs.Tables.{ScaledTable}
 use Rattle.level_laws.specs.Levels.{IsLeastWord, NoneBelow}
-use Rattle.meet_middle.specs.Spelled.{spelled}
+use Rattle.meet_middle.specs.Halves.{spelled}
 use Rattle.meet_middle.specs.declared.word2.Word2.{Word2}
 use Rattle.meet_middle.specs.declared.answer.Answer.{Answer}
 use Rattle.meet_middle.specs.declared.answer.Answer.TheVariants.{Least, Above}

@@ -1,4 +1,4 @@
 pub mod Answers
 pub mod Fronts
+pub mod Halves
 pub mod Kept
-pub mod Spelled

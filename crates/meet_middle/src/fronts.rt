@@ -2,7 +2,7 @@
 ghost use Rattle.std.specs.Prelude.{◌≡◌, ◌≢◌, ◌-◌, ◌^◌, ◌<◌, ◌≤◌, Bool, IfSome};
 ghost use Rattle.level_store.specs.Stored.{letters_in, IsStored};
 ghost use Rattle.meet_middle.specs.Fronts.{fronts_of, number_of, middle_of};
-ghost use Rattle.meet_middle.specs.Spelled.{middle_letters};
+ghost use Rattle.meet_middle.specs.Halves.{middle_letters};
 
 use level_store::Level;
 use pauli_basis::Pauli;

@@ -18,3 +18,6 @@ mod word2;
 pub use answer::Answer;
 pub use least::least_word;
 pub use word2::Word2;
+
+#[cfg(test)]
+mod tests;

@@ -6,7 +6,7 @@ ghost use Rattle.level_laws.specs.Levels.{removed};
 ghost use Rattle.level_store.specs.Stored.{Finds, IsStored, letters_in, words_of};
 ghost use Rattle.meet_middle.specs.Fronts.{front_of, fronts_of};
 ghost use Rattle.meet_middle.specs.Kept.{IsAsked, IsKept, keeps};
-ghost use Rattle.meet_middle.specs.Spelled.{middle_letters};
+ghost use Rattle.meet_middle.specs.Halves.{middle_letters};
 
 use crate::fronts::front;
 use crate::rests::{find_rest, remove};

@@ -8,7 +8,7 @@ ghost use Rattle.level_store.specs.Stored.{letters_in};
 ghost use Rattle.meet_middle.specs.Answers.{IsLeastAnswer};
 ghost use Rattle.meet_middle.specs.Fronts.{front_of, fronts_of, front_meets, total_of};
 ghost use Rattle.meet_middle.specs.Kept.{IsAsked, keeps};
-ghost use Rattle.meet_middle.specs.Spelled.{spelled};
+ghost use Rattle.meet_middle.specs.Halves.{spelled};
 
 use crate::fronts::{front, front_count};
 use crate::probe::Probe;
@@ -132,14 +132,14 @@ fn spell<const N: u8>(
     ensures spelled { spelled result.first.letters result.middle result.last.letters
         ≡ front_of N (letters_in level.now) odd position ++ result.last.letters }
 {
-    let Some(last) = probe.look(target, level, half, odd, position) else {
+    let Some(back) = probe.look(target, level, half, odd, position) else {
         unreachable!()
     };
     let (number, middle) = front(N, odd, position);
     Word2 {
         first: level.word(number),
         middle,
-        last,
+        last: back,
     }
 }
 

@@ -1,7 +1,7 @@
 // A word of two halves.
 ghost use Rattle.std.specs.Prelude.{◌≡◌, ◌≢◌, ◌<◌, Some, length, slice_get};
 ghost use Rattle.std.specs.Option.{ForSome};
-ghost use Rattle.meet_middle.specs.Spelled.{spelled};
+ghost use Rattle.meet_middle.specs.Halves.{spelled};
 
 use coset_label::Word;
 use pauli_basis::Pauli;

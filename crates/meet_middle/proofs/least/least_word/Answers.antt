@@ -1,4 +1,4 @@
-use Rattle.std.proofs.Common.{ℕ, Option, IfNone, ◌<◌, ◌+◌, ◌∙◌, arith, rules, subst}
+use Rattle.std.proofs.Common.{ℕ, IfNone, ◌<◌, ◌+◌, ◌∙◌, arith, rules, subst}
 use Rattle.channel_rep.specs.Cells.{scaled}
 use Rattle.level_laws.specs.Levels.{NoneBelow}
 use Rattle.level_laws.proofs.Exponents.{none_past, reduced_least}
@@ -15,20 +15,20 @@ returns-then-exponent-bound-clause-answer g c =
 pub returns-in_err-reach-clause-low : goal.returns-in_err-reach-clause-low
 returns-in_err-reach-clause-low g c =
     λ k a b.
-        let l = half_of c.halves-half.result.0 c.halves-half.result.1 in
-        c.reach.ensures.low k (c.loop-total.invariant.low k a b) (omega (arith, l.0, l.1, c.halves-half.ensures))
+    let l = half_of c.halves-half.result.0 c.halves-half.result.1 in
+    c.reach.ensures.low k (c.loop-total.invariant.low k a b) (omega (arith, l.0, l.1, c.halves-half.ensures))
 
 pub returns-in_err-word-clause-low : goal.returns-in_err-word-clause-low
 returns-in_err-word-clause-low g c =
     λ k a b.
-        let l = half_of c.halves-half.result.0 c.halves-half.result.1 in
-        c.reach.ensures.low k (c.loop-total.invariant.low k a b) (omega (arith, l.0, l.1, c.halves-half.ensures))
+    let l = half_of c.halves-half.result.0 c.halves-half.result.1 in
+    c.reach.ensures.low k (c.loop-total.invariant.low k a b) (omega (arith, l.0, l.1, c.halves-half.ensures))
 
 pub returns-in-Some-clause-low : goal.returns-in-Some-clause-low
 returns-in-Some-clause-low g c =
     λ k a b.
-        let l = half_of c.halves-half.result.0 c.halves-half.result.1 in
-        c.reach.ensures.low k (c.loop-total.invariant.low k a b) (omega (arith, l.0, l.1, c.halves-half.ensures))
+    let l = half_of c.halves-half.result.0 c.halves-half.result.1 in
+    c.reach.ensures.low k (c.loop-total.invariant.low k a b) (omega (arith, l.0, l.1, c.halves-half.ensures))
 
 pub loop-total-preserved : goal.loop-total-preserved
 loop-total-preserved g c =

@@ -1,4 +1,4 @@
-use Rattle.std.proofs.Common.{◌≡◌, ◌≢◌, ℕ, ◌^◌, ◌<◌, ◌++◌, List, Option, IfSome, Some, None, length, ap, sym, ◌∙◌, subst}
+use Rattle.std.proofs.Common.{◌≡◌, ◌≢◌, ℕ, ◌^◌, ◌<◌, ◌++◌, List, Option, IfSome, Some, length, ap, sym, ◌∙◌, subst}
 use Rattle.std.proofs.lemmas.List.{append_assoc}
 use Rattle.channel_rep.specs.Cells.{scaled}
 use Rattle.pauli_basis.specs.Pauli.{PauliString}
@@ -6,7 +6,7 @@ use Rattle.coset_label.specs.Words.{RotationWord}
 use Rattle.level_laws.specs.Levels.{StandsIn, removed}
 use Rattle.level_store.specs.Stored.{Finds, letters_in, words_of}
 use Rattle.meet_middle.specs.Fronts.{front_of}
-use Rattle.meet_middle.specs.Spelled.{middle_letters}
+use Rattle.meet_middle.specs.Halves.{middle_letters}
 use Rattle.meet_middle.proofs.Halving.{number_below, front_spelled}
 use Rattle.meet_middle.proofs.Numbers.{word_qubits, word_letters}
 use Rattle.meet_middle.proofs.Totals.{meets_decided}
@@ -61,7 +61,7 @@ returns-clause-spelled g c =
     let number = c.front-number.result.0 in
     let first = c.word.result in
     let middle = middle_letters c.front-number.result.1 in
-    let last = c.in-Some.last.letters in
+    let last = c.in-Some.back.letters in
     let below = subst (λ (k : ℕ). k < length (words_of level)) (sym c.front-number.ensures.number) (number_below n level c.args.odd c.args.position c.requires.below) in
     let front = front_spelled n (letters_in level) c.args.odd c.args.position number first.letters middle (word_letters level number first below c.word.ensures.word) c.front-number.ensures.number c.front-number.ensures.letters in
     sym (append_assoc first.letters middle last) ∙ ap (λ (w : List ℕ). w ++ last) front

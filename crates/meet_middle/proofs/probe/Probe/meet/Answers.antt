@@ -1,14 +1,14 @@
-use Rattle.std.proofs.Common.{◌≡◌, ◌≢◌, ℕ, ◌^◌, ◌<◌, ◌≤◌, ◌+◌, List, [], ◌∷◌, ◌++◌, Option, IfSome, refl, ap, sym, ◌∙◌, subst, rules}
+use Rattle.std.proofs.Common.{◌≡◌, ◌≢◌, ℕ, ◌^◌, ◌<◌, ◌+◌, List, [], ◌∷◌, ◌++◌, Option, IfSome, ap, sym, ◌∙◌, subst, rules}
 use Rattle.std.proofs.lemmas.List.{append-nil}
 use Rattle.channel_rep.specs.Cells.{ChannelGrid, scaled}
-use Rattle.channel_rep.specs.Tables.{ScaledTable, SameTable, IsCircuitChannel}
+use Rattle.channel_rep.specs.Tables.{IsCircuitChannel}
 use Rattle.channel_rep.proofs.Built.{same_table_refl}
 use Rattle.coset_label.specs.Labels.{HasLeastExponent}
 use Rattle.level_laws.proofs.Exponents.{reduced_least}
 use Rattle.level_laws.specs.Levels.{StandsIn, removed}
 use Rattle.level_store.specs.Stored.{Finds}
 use Rattle.pauli_basis.specs.Pauli.{PauliString}
-use Rattle.meet_middle.specs.Spelled.{middle_letters}
+use Rattle.meet_middle.specs.Halves.{middle_letters}
 use Rattle.meet_middle.proofs.Resting.{finds_of_same, rest_circuit, letter_off, past_letter}
 use Rattle.meet_middle.proofs.probe.Probe.meet.Goals as goal
 
