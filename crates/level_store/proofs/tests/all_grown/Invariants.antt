@@ -1,0 +1,12 @@
+use Rattle.std.proofs.Common.{◌≡◌, ◌+◌, ◌-◌, length}
+use Rattle.level_store.specs.Stored.{qubits_of_all, levels_of, AreLevels}
+use Rattle.level_store.proofs.tests.all_grown.Given as goal
+
+abbrev pub invariant-loop-alloc : goal.invariant-loop-alloc
+invariant-loop-alloc g l = record {
+  levels : AreLevels l.levels;
+  qubits : qubits_of_all l.levels ≡ l.n;
+}
+
+abbrev pub decreases-loop-alloc : goal.decreases-loop-alloc
+decreases-loop-alloc g l = l.top + 1 - length (levels_of l.levels)
