@@ -1,0 +1,7 @@
+pub mod Few
+pub mod Halving
+pub mod Keeping
+pub mod Numbers
+pub mod Removing
+pub mod Resting
+pub mod Totals

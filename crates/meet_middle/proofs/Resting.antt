@@ -1,0 +1,75 @@
+-- What is left of a target behind a front.
+use Rattle.std.proofs.Common.{◌≡◌, ◌≢◌, ℕ, true, ◌+◌, ◌^◌, ◌<◌, ◌≤◌, zero, suc, List, [], ◌∷◌, ◌++◌, Option, Some, None, length, slice_index_or, refl, ap, sym, ◌∙◌, subst, arith}
+use Rattle.ring_laws.specs.Matrix.{product, Agree}
+use Rattle.tc_ring.specs.Surds.{surds}
+use Rattle.channel_rep.specs.Cells.{ChannelGrid, scaled, table_of}
+use Rattle.channel_rep.specs.Tables.{ScaledTable, rotation_table, SameTable, IsCircuitChannel, built}
+use Rattle.channel_rep.specs.Words.{IsWord}
+use Rattle.channel_rep.proofs.Built.{same_table_refl, same_table_sym, same_table_trans}
+use Rattle.coset_label.specs.Labels.{HasLeastExponent, Label, IsLabelOf}
+use Rattle.coset_label.specs.Words.{RotationWord}
+use Rattle.level_laws.specs.Levels.{IsLevel, IsFound, StandsIn, removed}
+use Rattle.level_laws.proofs.Exponents.{none_past}
+use Rattle.level_laws.proofs.Follow.{off_circuit}
+use Rattle.meet_laws.proofs.Meeting.{meets_in_coset}
+use Rattle.level_laws.proofs.Positions.{even_front}
+use Rattle.level_laws.proofs.Finding.{found_of_same}
+use Rattle.level_laws.proofs.Removed.{removed_step}
+use Rattle.level_store.specs.declared.level.Level.{Level}
+use Rattle.level_store.specs.Stored.{Finds, FindsLabel, IsStored, qubits_of, len_of}
+use Rattle.meet_middle.proofs.Removing.{remove_letter}
+
+-- a look tells of each table of the same value
+pub finds_of_same : (n k : ℕ) (a b : ScaledTable) → SameTable n a b → (r : Option RotationWord) → Finds n k a r → Finds n k b r
+finds_of_same n k a b same (Some w) h = (h.0, found_of_same n k a b w.letters same h.1)
+finds_of_same n k a b same None h = λ found. h (found.0, found_of_same n k b a found.0 (same_table_sym n a b same) found.1)
+
+-- a rest is a circuit's channel
+pub rest_circuit : (n : ℕ) → 0 < n → n ≤ 3 → (rest target : ScaledTable) (word : List ℕ) → IsWord n word → SameTable n rest (removed n target word) → IsCircuitChannel n target → IsCircuitChannel n rest
+rest_circuit n some few rest target word good same circuit =
+    let off = off_circuit n some few target word good circuit in
+    (off.0, off.1, same_table_trans n rest (removed n target word) (built n off.0) same off.2)
+
+-- a word of a level is a word
+pub level_word_is : (n : ℕ) → 0 < n → n ≤ 3 → (h : ℕ) (words : List (List ℕ)) → IsLevel n h words → (i : ℕ) → i < length words → IsWord n (slice_index_or words i [])
+level_word_is n some few h words level i l = (even_front n h words level i l).word
+
+-- one letter more taken off, without the channel's own work
+pub one_letter_off : (n : ℕ) (kept target : ScaledTable) (word : List ℕ) (p : ℕ) → SameTable n kept (removed n target word) → SameTable n (removed n kept (p ∷ [])) (removed n target (word ++ p ∷ []))
+one_letter_off n kept target word p same = removed_step n target kept (removed n kept (p ∷ [])) word p same refl (λ row column l m. refl)
+
+-- a letter taken off a copy of what is kept, which is then brought to the least exponent
+pub letter_off : (n : ℕ) (kept copied off rest : ChannelGrid) (p : ℕ) → kept.qubits ≡ n → copied ≡ kept → off.qubits ≡ copied.qubits → off.exponent ≡ 1 + copied.exponent
+    → Agree surds (4 ^ copied.qubits) (table_of off) (product surds (4 ^ copied.qubits) (rotation_table copied.qubits true p) (table_of copied))
+    → SameTable off.qubits (scaled rest) (scaled off)
+    → (target : ScaledTable) (word : List ℕ) → SameTable n (scaled kept) (removed n target word) → SameTable n (scaled rest) (removed n target (word ++ p ∷ []))
+letter_off n kept copied off rest p q is q1 e table value target word same =
+    let at : copied.qubits ≡ n = ap (λ (c : ChannelGrid). c.qubits) is ∙ q in
+    let before : SameTable n (scaled copied) (removed n target word) = subst (λ (c : ChannelGrid). SameTable n (scaled c) (removed n target word)) (sym is) same in
+    let after : SameTable n (scaled off) (removed n target (word ++ p ∷ [])) = remove_letter copied.qubits n target (scaled copied) (scaled off) word p at before e table in
+    same_table_trans n (scaled rest) (scaled off) _ (subst (λ (k : ℕ). SameTable k (scaled rest) (scaled off)) (q1 ∙ at) value) after
+
+-- the whole word taken off a copy of the target, which is then brought to the least exponent
+pub word_off : (n : ℕ) (target copied off rest : ChannelGrid) (word : List ℕ) → target.qubits ≡ n → copied ≡ target → off.qubits ≡ copied.qubits
+    → SameTable copied.qubits (scaled off) (removed copied.qubits (scaled copied) word) → SameTable off.qubits (scaled rest) (scaled off)
+    → SameTable n (scaled rest) (removed n (scaled target) word)
+word_off n target copied off rest word q is q1 table value =
+    let at : copied.qubits ≡ n = ap (λ (c : ChannelGrid). c.qubits) is ∙ q in
+    let after : SameTable n (scaled off) (removed n (scaled copied) word) = subst (λ (k : ℕ). SameTable k (scaled off) (removed k (scaled copied) word)) at table in
+    let whole : SameTable n (scaled off) (removed n (scaled target) word) = subst (λ (c : ChannelGrid). SameTable n (scaled off) (removed n (scaled c) word)) is after in
+    same_table_trans n (scaled rest) (scaled off) _ (subst (λ (k : ℕ). SameTable k (scaled rest) (scaled off)) (q1 ∙ at) value) whole
+
+-- where the least exponent passes a level's number of letters by more than one, no letter taken off brings the rest there
+pub past_letter : (n : ℕ) → 0 < n → n ≤ 3 → (kept : ScaledTable) → HasLeastExponent n kept → (half p : ℕ) → (p < 4 ^ n) × (p ≢ 0) → half + 1 < kept.exponent
+    → (target : ScaledTable) (word : List ℕ) → SameTable n kept (removed n target word) → StandsIn n half (removed n target (word ++ p ∷ [])) → ⊥
+past_letter n some few kept least half p good l target word same found =
+    let here : IsFound n half (removed n kept (p ∷ [])) found.0 = found_of_same n half _ _ found.0 (same_table_sym n _ _ (one_letter_off n kept target word p same)) found.1 in
+    none_past n kept least (half + 1) l (p ∷ found.0) (meets_in_coset n some few kept half (p ∷ []) found.0 (good, tt) here) (omega (arith, here.level.letters))
+
+-- a look into a stored level, by the level's own numbers
+pub finds_named : (l : Level) (n k : ℕ) → IsStored n k l → (label : Label) (r : Option RotationWord) → FindsLabel (qubits_of l) (len_of l) label r → (m : ScaledTable) → IsCircuitChannel n m → IsLabelOf n m label
+    → Finds n k m r
+finds_named l n k stored label r finds m =
+    let at : FindsLabel n (len_of l) label r = subst (λ (q : ℕ). FindsLabel q (len_of l) label r) stored.qubits finds in
+    let both : FindsLabel n k label r = subst (λ (j : ℕ). FindsLabel n j label r) stored.len at in
+    both m

@@ -1,0 +1,66 @@
+use Rattle.std.proofs.Common.{◌≡◌, ◌≢◌, ℕ, ◌^◌, ◌<◌, ◌≤◌, ◌+◌, List, [], ◌∷◌, ◌++◌, Option, IfSome, refl, ap, sym, ◌∙◌, subst, rules}
+use Rattle.std.proofs.lemmas.List.{append-nil}
+use Rattle.channel_rep.specs.Cells.{ChannelGrid, scaled}
+use Rattle.channel_rep.specs.Tables.{ScaledTable, SameTable, IsCircuitChannel}
+use Rattle.channel_rep.proofs.Built.{same_table_refl}
+use Rattle.coset_label.specs.Labels.{HasLeastExponent}
+use Rattle.level_laws.proofs.Exponents.{reduced_least}
+use Rattle.level_laws.specs.Levels.{StandsIn, removed}
+use Rattle.level_store.specs.Stored.{Finds}
+use Rattle.pauli_basis.specs.Pauli.{PauliString}
+use Rattle.meet_middle.specs.Halves.{middle_letters}
+use Rattle.meet_middle.proofs.Resting.{finds_of_same, rest_circuit, letter_off, past_letter}
+use Rattle.meet_middle.proofs.probe.Probe.meet.Goals as goal
+
+pub returns-then-exponent-half-clause-finds : goal.returns-then-exponent-half-clause-finds
+returns-then-exponent-half-clause-finds g c =
+    λ target word same found.
+    let n = g.row.N in
+    let kept = c.args.self.now.kept in
+    let q : kept.qubits ≡ n = search rules in
+    let l : c.args.half + 1 < kept.exponent = search rules in
+    let least : HasLeastExponent n (scaled kept) = subst (λ (k : ℕ). HasLeastExponent k (scaled kept)) q (reduced_least kept c.requires.reduced) in
+    let good = subst (λ (o : Option PauliString). IfSome o (λ p. (p.qubits ≡ n) × (p.code < 4 ^ n) × (p.code ≢ 0))) c.in-Some.is c.requires.middle in
+    let there = subst (λ (o : Option PauliString). StandsIn n c.args.half (removed n target (word ++ middle_letters o))) c.in-Some.is found in
+    past_letter n c.requires.stored.some c.requires.stored.few (scaled kept) least c.args.half c.in-Some.letter.code (good.1, good.2) l target word same there
+
+pub find_rest-requires-clause-circuit : goal.find_rest-requires-clause-circuit
+find_rest-requires-clause-circuit g c =
+    let n = g.row.N in
+    let kept = c.args.self.now.kept in
+    let rest = c.reduce.new.self in
+    let q : kept.qubits ≡ n = search rules in
+    let at : rest.qubits ≡ n = c.reduce.ensures.qubits ∙ (c.left_rotation_inverse.ensures.qubits ∙ (ap (λ (m : ChannelGrid). m.qubits) c.copy_from.ensures ∙ q)) in
+    let good = subst (λ (o : Option PauliString). IfSome o (λ p. (p.qubits ≡ n) × (p.code < 4 ^ n) × (p.code ≢ 0))) c.in-Some.is c.requires.middle in
+    let off = letter_off n kept c.copy_from.new.self c.left_rotation_inverse.new.self rest c.in-Some.letter.code q c.copy_from.ensures c.left_rotation_inverse.ensures.qubits c.left_rotation_inverse.ensures.exponent c.left_rotation_inverse.ensures.table c.reduce.ensures.value (scaled kept) [] (same_table_refl n (scaled kept)) in
+    subst (λ (k : ℕ). IsCircuitChannel k (scaled rest)) (sym at) (rest_circuit n c.requires.stored.some c.requires.stored.few (scaled rest) (scaled kept) (c.in-Some.letter.code ∷ []) ((good.1, good.2), tt) off c.requires.circuit)
+
+pub find_rest-requires-in-None-clause-circuit : goal.find_rest-requires-in-None-clause-circuit
+find_rest-requires-in-None-clause-circuit g c =
+    let kept = c.args.self.now.kept in
+    let q : kept.qubits ≡ g.row.N = search rules in
+    subst (λ (k : ℕ). IsCircuitChannel k (scaled kept)) (sym q) c.requires.circuit
+
+pub returns-else-exponent-half-clause-finds : goal.returns-else-exponent-half-clause-finds
+returns-else-exponent-half-clause-finds g c =
+    λ target word same.
+    let n = g.row.N in
+    let kept = c.args.self.now.kept in
+    let rest = c.reduce.new.self in
+    let q : kept.qubits ≡ n = search rules in
+    let at : rest.qubits ≡ n = c.reduce.ensures.qubits ∙ (c.left_rotation_inverse.ensures.qubits ∙ (ap (λ (m : ChannelGrid). m.qubits) c.copy_from.ensures ∙ q)) in
+    let off = letter_off n kept c.copy_from.new.self c.left_rotation_inverse.new.self rest c.in-Some.letter.code q c.copy_from.ensures c.left_rotation_inverse.ensures.qubits c.left_rotation_inverse.ensures.exponent c.left_rotation_inverse.ensures.table c.reduce.ensures.value target word same in
+    let finds = subst (λ (k : ℕ). Finds k c.args.half (scaled rest) c.find_rest.result) at c.find_rest.ensures.finds in
+    subst (λ (o : Option PauliString). Finds n c.args.half (removed n target (word ++ middle_letters o)) c.find_rest.result) (sym c.in-Some.is)
+    (finds_of_same n c.args.half (scaled rest) _ off c.find_rest.result finds)
+
+pub returns-in-None-clause-finds : goal.returns-in-None-clause-finds
+returns-in-None-clause-finds g c =
+    λ target word same.
+    let n = g.row.N in
+    let kept = c.args.self.now.kept in
+    let q : kept.qubits ≡ n = search rules in
+    let finds = subst (λ (k : ℕ). Finds k c.args.half (scaled kept) c.find_rest-in-None.result) q c.find_rest-in-None.ensures.finds in
+    let whole = finds_of_same n c.args.half (scaled kept) (removed n target word) same c.find_rest-in-None.result finds in
+    subst (λ (o : Option PauliString). Finds n c.args.half (removed n target (word ++ middle_letters o)) c.find_rest-in-None.result) (sym c.in-None.is)
+    (subst (λ (w : List ℕ). Finds n c.args.half (removed n target w) c.find_rest-in-None.result) (sym (append-nil word)) whole)
