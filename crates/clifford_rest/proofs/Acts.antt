@@ -13,7 +13,7 @@ use Rattle.tc_circuit.specs.Model.{ScaledMatrix, after, matrix_of}
 use Rattle.pauli_basis.specs.Products.{Signed}
 use Rattle.channel_rep.specs.declared.gate.ChannelGate.{ChannelGate}
 use Rattle.channel_rep.specs.Gates.{Fits, image, positive}
-use Rattle.channel_rep.specs.Tables.{ScaledTable, signed, turned_over}
+use Rattle.channel_rep.specs.Tables.{ScaledTable, turned_over}
 use Rattle.channel_rep.proofs.Images.{image-lt}
 use Rattle.tc_bridge.specs.Pauli.{pauli_matrix, sign}
 use Rattle.tc_bridge.specs.Channel.{IsChannel}
@@ -23,6 +23,7 @@ use Rattle.tc_bridge.proofs.Embeddings.{embed-identity, embed-signed}
 use Rattle.tc_bridge.proofs.Channels.{channel_at, channel_from}
 use Rattle.tc_bridge.proofs.CircuitChannels.{gate_conjugates}
 use Rattle.channel_rep.specs.Conjugations.{conjugated, conjugated_by}
+use Rattle.tc_bridge.proofs.CliffordTables.{HasEntry}
 
 -- U·P = ±Q·U: U conjugates P to Q with the sign
 pub record Acts (n : ℕ) (u : Table) (p : ℕ) (s : Signed) : Type 0 where
@@ -64,11 +65,6 @@ pub acts_circuit : (n : ℕ) → 0 < n → n ≤ 3 → (gates : List ChannelGate
 acts_circuit n some few gates fits p l = acts_after n some few gates fits (record { table = identity cyclotomics; exponent = 0 }) p (positive p) (acts_identity n p l)
 
 -- ---- channels
--- a column of a table has one entry, 1 or −1
-pub record HasEntry (n : ℕ) (c : ScaledTable) (column : ℕ) (s : Signed) : Type 0 where
-  pub below : s.code < 4 ^ n
-  pub is : (row : ℕ) → row < 4 ^ n → c.table row column ≡ signed s.is_negative (identity surds row s.code)
-
 -- the entry among the numbers of Z[ω]
 entry : (n : ℕ) (c : ScaledTable) (column : ℕ) (s : Signed) → HasEntry n c column s → (row : ℕ) → row < 4 ^ n
     → embed (c.table row column) ≡ times (sign s.is_negative) (identity cyclotomics row s.code)

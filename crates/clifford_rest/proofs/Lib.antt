@@ -1,13 +1,11 @@
 pub mod Acts
 pub mod Invertible
 pub mod Multiplies
-pub mod Codes
 pub mod Ends
 pub mod Lists
 pub mod Ended
 pub mod Undone
 pub mod Fixed
 pub mod Permutations
-pub mod Tables
 pub mod Rests
 pub mod TFree

@@ -7,7 +7,7 @@ use Rattle.channel_rep.specs.Tables.{signed}
 use Rattle.channel_rep.proofs.Rules.{one_at, zero_at}
 use Rattle.channel_rep.proofs.Signs.{signed-zero}
 use Rattle.clifford_rest.specs.Rest.{is_zero, is_below_zero, place_of, sent_to}
-use Rattle.clifford_rest.proofs.Acts.{HasEntry}
+use Rattle.tc_bridge.proofs.CliffordTables.{HasEntry}
 
 -- the one place is found
 place_is : (size : ℕ) (f : ℕ → Surd) (place : ℕ) → place < size → is_zero (f place).a ≡ false → ((k : ℕ) → k < size → k ≢ place → is_zero (f k).a ≡ true) → place_of size f ≡ place

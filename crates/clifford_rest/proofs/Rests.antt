@@ -25,12 +25,12 @@ use Rattle.tc_bridge.proofs.Unique.{unique}
 use Rattle.tc_bridge.proofs.Unitary.{unitary_circuit}
 use Rattle.clifford_rest.specs.Rest.{IsUndoGate, IsRestGate, sent_to, undo_gates, rest_of}
 use Rattle.channel_rep.specs.Conjugations.{conjugated_by}
-use Rattle.clifford_rest.proofs.Acts.{Acts, HasEntry, acts_circuit, acts_from_channel, channel_from_acts}
-use Rattle.clifford_rest.proofs.Codes.{conjugated_by-undone, length-undone}
+use Rattle.clifford_rest.proofs.Acts.{Acts, acts_circuit, acts_from_channel, channel_from_acts}
+use Rattle.tc_bridge.proofs.Codes.{conjugated_by-undone, length-undone}
 use Rattle.clifford_rest.proofs.Fixed.{all_stay}
 use Rattle.clifford_rest.proofs.Invertible.{IsInvertible, invertible_identity, invertible_gate, invertible_product, invertible_rotation}
 use Rattle.clifford_rest.proofs.Permutations.{sent_entry}
-use Rattle.clifford_rest.proofs.Tables.{entry_gates, identity_from_entries}
+use Rattle.tc_bridge.proofs.CliffordTables.{HasEntry, entry_gates, identity_from_entries}
 use Rattle.clifford_rest.proofs.Undone.{TakesPaulis, Swept, swept, taken, most_below}
 
 -- ---- the table of steps is the channel of a matrix

@@ -1,29 +1,22 @@
 -- The channel of a circuit without T gates is a signed permutation.
-use Rattle.std.proofs.Common.{◌≡◌, ◌≢◌, ℕ, suc, ◌-◌, ◌^◌, ◌<◌, ◌≤◌, Bool, true, false, List, [], ◌∷◌, refl, ap, sym, ◌∙◌, subst, inl, inr, arith}
+use Rattle.std.proofs.Common.{◌≡◌, ℕ, suc, ◌-◌, ◌^◌, ◌<◌, ◌≤◌, List, [], ◌∷◌, refl, ap, sym, ◌∙◌, subst, inl, inr, arith}
 use Rattle.std.specs.List.{AllByRecursion}
 use Rattle.std.proofs.lemmas.Bool.{cases_eq}
 use Rattle.ring_laws.specs.Ring.{power}
 use Rattle.ring_laws.proofs.Ring.{power-zero, power-suc, one-mul}
-use Rattle.tc_ring.specs.Surds.{Surd, surds, surd_times, one_surd, zero_surd, root2_surd}
+use Rattle.tc_ring.specs.Surds.{Surd, surds, surd_times, root2_surd}
 use Rattle.tc_ring.proofs.Surds.{surds_laws, surd_times_assoc, odd_is_no_multiple}
 use Rattle.tc_circuit.specs.Model.{IsCircuit, t_count_of}
 use Rattle.tc_circuit.specs.declared.circuit.Gate.{Gate}
 use Rattle.tc_circuit.specs.declared.circuit.Gate.TheVariants.{H, S, Sdg, T, Tdg, Cx}
-use Rattle.pauli_basis.specs.Products.{Signed}
 use Rattle.channel_rep.specs.declared.gate.ChannelGate.{ChannelGate}
 use Rattle.channel_rep.specs.Cells.{ChannelGrid, table_of, scaled, IsReduced, IsUnit, HasOneUnit, IsSignedPermutation}
-use Rattle.channel_rep.specs.Gates.{Fits, positive}
-use Rattle.channel_rep.specs.Tables.{ScaledTable, signed, built, IsBuiltOf}
-use Rattle.channel_rep.proofs.Rules.{one_at, zero_at}
-use Rattle.channel_rep.proofs.Signs.{signed-zero}
-use Rattle.tc_bridge.specs.Block.{as_gates, undone}
+use Rattle.channel_rep.specs.Gates.{Fits}
+use Rattle.channel_rep.specs.Tables.{ScaledTable, built, IsBuiltOf}
+use Rattle.tc_bridge.specs.Block.{as_gates}
 use Rattle.tc_bridge.specs.Steps.{steps_of}
-use Rattle.tc_bridge.proofs.Conjugations.{undone_fits}
 use Rattle.tc_bridge.proofs.Counts.{t_count-cons}
-use Rattle.channel_rep.specs.Conjugations.{conjugated_by}
-use Rattle.clifford_rest.proofs.Acts.{HasEntry}
-use Rattle.clifford_rest.proofs.Codes.{conjugated_by-lt, conjugated_by-undone, undone-conjugated_by, conjugated_code}
-use Rattle.clifford_rest.proofs.Tables.{entry_built, gates_exponent}
+use Rattle.tc_bridge.proofs.CliffordTables.{gates_exponent, row_unit, column_unit}
 
 -- ---- a circuit without T gates has Clifford gates alone
 pub record IsClifford (n : ℕ) (gates : List Gate) : Type 0 where
@@ -44,67 +37,6 @@ clifford_of n (Sdg q ∷ gates) fits none = more_clifford n (ChannelGate.Sdg q) 
 clifford_of n (Cx c t ∷ gates) fits none = more_clifford n (ChannelGate.Cx c t) (Cx c t) gates fits.0 refl (clifford_of n gates fits.1 (omega (arith, t_count-cons (Cx c t) gates, none)))
 clifford_of n (T q ∷ gates) fits none = absurd (omega (arith, t_count-cons (T q) gates, none))
 clifford_of n (Tdg q ∷ gates) fits none = absurd (omega (arith, t_count-cons (Tdg q) gates, none))
-
--- ---- units
-unit_of : (b : Bool) (x : Surd) → x ≡ signed b one_surd → IsUnit x
-unfolding signed
-unit_of true x e = inr e
-unit_of false x e = inl e
-
--- the entry of a column is a unit
-at_entry : (n : ℕ) (c : ScaledTable) (q : ℕ) (s : Signed) (h : HasEntry n c q s) (row : ℕ) → row < 4 ^ n → row ≡ s.code → IsUnit (c.table row q)
-at_entry n c q s h row l e = unit_of s.is_negative _ (h.is row l ∙ ap (signed s.is_negative) (one_at row s.code e))
-
--- and the others are 0
-off_entry : (n : ℕ) (c : ScaledTable) (q : ℕ) (s : Signed) (h : HasEntry n c q s) (row : ℕ) → row < 4 ^ n → row ≢ s.code → c.table row q ≡ zero_surd
-off_entry n c q s h row l d = h.is row l ∙ ap (signed s.is_negative) (zero_at row s.code d) ∙ signed-zero s.is_negative
-
-module _ (n : ℕ) (some : 0 < n) (few : n ≤ 3) (gates : List ChannelGate) (fits : AllByRecursion (Fits n) gates) where
-  -- the table that the gates build
-  abbrev m : ScaledTable
-  m = built n (steps_of (as_gates gates))
-
-  -- what the gates make of a code
-  abbrev made : ℕ → Signed
-  made q = conjugated_by n gates (positive q)
-
-  -- and what their inverses do
-  abbrev back : ℕ → Signed
-  back p = conjugated_by n (undone gates) (positive p)
-
-  -- the columns' entries
-  entry : (q : ℕ) → q < 4 ^ n → HasEntry n m q (made q)
-  entry q l = entry_built n some few gates fits q l
-
-  -- the inverses keep to codes of n qubits
-  back_lt : (p : ℕ) → p < 4 ^ n → (back p).code < 4 ^ n
-  back_lt p l = conjugated_by-lt n some few (undone gates) (undone_fits n gates fits) (positive p) l
-
-  -- the codes go there and back
-  there : (p : ℕ) → p < 4 ^ n → (made (back p).code).code ≡ p
-  there p l = conjugated_code n gates (positive (back p).code) (back p) refl ∙ ap (λ (s : Signed). s.code) (undone-conjugated_by n some few gates fits (positive p) l)
-
-  -- and back and there
-  here : (q : ℕ) → q < 4 ^ n → (back (made q).code).code ≡ q
-  here q l = conjugated_code n (undone gates) (positive (made q).code) (made q) refl ∙ ap (λ (s : Signed). s.code) (conjugated_by-undone n some few gates fits (positive q) l)
-
-  -- each column has one unit
-  pub column_unit : (q : ℕ) → q < 4 ^ n → HasOneUnit (4 ^ n) (λ row. m.table row q)
-  column_unit q l = record {
-    place = (made q).code;
-    below = (entry q l).below;
-    unit = at_entry n m q (made q) (entry q l) (made q).code (entry q l).below refl;
-    others = λ row h d. off_entry n m q (made q) (entry q l) row h d;
-  }
-
-  -- each row has one unit
-  pub row_unit : (row : ℕ) → row < 4 ^ n → HasOneUnit (4 ^ n) (λ q. m.table row q)
-  row_unit row l = record {
-    place = (back row).code;
-    below = back_lt row l;
-    unit = at_entry n m (back row).code (made (back row).code) (entry (back row).code (back_lt row l)) row l (sym (there row l));
-    others = λ q h d. off_entry n m q (made q) (entry q h) row l (λ e. d (sym (here q h) ∙ ap (λ (k : ℕ). (back k).code) (sym e)));
-  }
 
 -- ---- the least exponent of such a table is 0
 odd_none : (n k : ℕ) (x y : Surd) → k ≡ suc n → x ≡ surd_times (power surds root2_surd k) y → surd_times root2_surd (surd_times (power surds root2_surd n) y) ≡ x

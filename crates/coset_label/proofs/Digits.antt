@@ -123,3 +123,24 @@ order_is base first (x ∷ xs) (y ∷ ys) h g e = elim (cases_order x y) [
       ap (λ o. ordering_then o (slice_cmp nat_cmp xs ys)) (sym (nat_cmp_is x y Greater more))
       ∙ nat_cmp_is _ _ Greater (packed_from_less base (first * base + y) (first * base + x) ys xs g.1 h.1 (omega arith) (omega arith)))
 ]
+
+-- the letters' number from a first part on, as a sum
+packed_split : (base first : ℕ) (letters : List ℕ) → packed_from base first letters ≡ packed_from base 0 letters + first * base ^ length letters
+packed_split base first [] = omega (arith, ap (λ p. first * p) (pow-zero base))
+packed_split base first (p ∷ letters) =
+    let power : ℕ = base ^ length letters in
+    let a = packed_split base (first * base + p) letters in
+    let b = packed_split base (0 * base + p) letters in
+    let e : first * base ^ suc (length letters) ≡ first * (power * base) = ap (λ q. first * q) (pow-suc base (length letters)) in
+    omega (arith, a, b, e)
+
+-- packed letters, cut again
+pub digits_packed : (base : ℕ) (letters : List ℕ) → DigitsBelow base letters → digits base (length letters) (packed_from base 0 letters) ≡ letters
+digits_packed base [] h = refl
+digits_packed base (p ∷ letters) h =
+    let power : ℕ = base ^ length letters in
+    let number : ℕ = packed_from base 0 letters in
+    let below : number < (0 + 1) * power = (packed_between base 0 letters h.1).1 in
+    let split = packed_split base (0 * base + p) letters in
+    let e : packed_from base (0 * base + p) letters ≡ number + p * power = omega (arith, split) in
+    ap (digits base (suc (length letters))) e ∙ digits-front base (length letters) p number h.0 (omega arith) ∙ ap (λ (l : List ℕ). p ∷ l) (digits_packed base letters h.1)

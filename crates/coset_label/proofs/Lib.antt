@@ -18,3 +18,4 @@ pub mod ColumnSums
 pub mod KeptLabels
 pub mod SameLabels
 pub mod WordSteps
+pub mod Deciding

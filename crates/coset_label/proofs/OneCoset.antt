@@ -1,12 +1,13 @@
--- To lie in one coset is an equivalence on tables.
-use Rattle.std.proofs.Common.{◌≡◌, ℕ, Bool, false, ap, sym, ◌∙◌}
+-- To lie in one coset is an equivalence on tables, and on words. Crates above use it too.
+use Rattle.std.proofs.Common.{◌≡◌, ℕ, Bool, false, List, ap, sym, ◌∙◌}
 use Rattle.ring_laws.proofs.Ring.{mul_left_comm}
 use Rattle.tc_ring.specs.Surds.{Surd, surd_times}
 use Rattle.tc_ring.proofs.Surds.{surds_laws, cancel_root2_power}
 use Rattle.channel_rep.specs.Tables.{ScaledTable, SameTable, signed, turned_over}
-use Rattle.channel_rep.proofs.Built.{root2_to}
+use Rattle.channel_rep.proofs.Built.{root2_to, same_table_refl}
 use Rattle.channel_rep.proofs.Signs.{signed-twice, signed-signed, times-signed}
-use Rattle.coset_label.specs.Cosets.{IsColumnUpToSign, HasColumnsOf, SameCoset}
+use Rattle.coset_label.specs.Cosets.{IsColumnUpToSign, HasColumnsOf, SameCoset, SameCosetWords}
+use Rattle.coset_label.specs.Words.{word_channel}
 
 -- two factors change places under a sign
 swap_signed : (b : Bool) (x y z : Surd) → surd_times x (signed b (surd_times y z)) ≡ signed b (surd_times y (surd_times x z))
@@ -58,3 +59,17 @@ same_coset_of_same n a b same = record {
   there = λ column l. (column, l, record { negative = false; cells = λ row m. same row column m l });
   back = λ column l. (column, l, record { negative = false; cells = λ row m. sym (same row column m l) });
 }
+
+-- a table lies in its own coset
+pub same_coset_refl : (n : ℕ) (a : ScaledTable) → SameCoset n a a
+same_coset_refl n a = same_coset_of_same n a a (same_table_refl n a)
+
+-- ---- the same of words
+pub coset_refl : (n : ℕ) (v : List ℕ) → SameCosetWords n v v
+coset_refl n v = same_coset_refl n (word_channel n v)
+
+pub coset_sym : (n : ℕ) (v w : List ℕ) → SameCosetWords n v w → SameCosetWords n w v
+coset_sym n v w = same_coset_sym n (word_channel n v) (word_channel n w)
+
+pub coset_trans : (n : ℕ) (u v w : List ℕ) → SameCosetWords n u v → SameCosetWords n v w → SameCosetWords n u w
+coset_trans n u v w = same_coset_trans n (word_channel n u) (word_channel n v) (word_channel n w)

@@ -1,4 +1,4 @@
--- Packed words against the words that they stand for.
+-- Packed words against the words that they stand for. Crates above use it too.
 use Rattle.std.proofs.Common.{◌≡◌, ◌≢◌, ℕ, zero, suc, ◌+◌, ◌-◌, ◌*◌, ◌/◌, ◌%◌, ◌^◌, ◌<◌, ◌≤◌, ◌↔◌, List, [], ◌∷◌, ◌++◌, length, IsTrue, slice_get, Some, refl, ap, sym, ◌∙◌, subst, arith, nat_lt, nat_eq, Bool, bit_and, Fits, w32, add-one}
 use Rattle.std.specs.Ordering.{nat_cmp}
 use Rattle.std.specs.declared.cmp.Ordering.TheVariants.{Less, Equal, Greater}
@@ -28,12 +28,12 @@ pub letters_packed : (n count number : ℕ) (w : RotationWord) → unpacked n co
 letters_packed n count number w e h = sym (packed-digits n count number h) ∙ ap (λ (v : RotationWord). packed v.qubits v.letters) e
 
 -- the letters of a word are digits
-digits_below : (n : ℕ) (letters : List ℕ) → IsWord n letters → DigitsBelow (4 ^ n) letters
+pub digits_below : (n : ℕ) (letters : List ℕ) → IsWord n letters → DigitsBelow (4 ^ n) letters
 digits_below n [] h = h
 digits_below n (p ∷ letters) h = (h.0.0, digits_below n letters h.1)
 
 -- a comparison that answers `Less`
-less_is : (x y : ℕ) → (nat_cmp x y ≡ Less) ↔ (x < y)
+pub less_is : (x y : ℕ) → (nat_cmp x y ≡ Less) ↔ (x < y)
 less_is x y = (λ e. there (cases_lt x y) e, λ l. sym (nat_cmp_is x y Less l))
   where
     not_less : (x ≡ y) ⊎ ((x < y) ⊎ (y < x)) → nat_cmp x y ≡ Less → y ≤ x → ⊥
@@ -66,7 +66,7 @@ in_order n count number m many other v w e g h k q l =
     (λ t. same ∙ (less_is number other).1 (ltb-true number other t), λ r. lt-ltb number other ((less_is number other).0 (sym same ∙ r)))
 
 -- how many bits a short word fills
-bits_few : (n count : ℕ) → 0 < n → n ≤ 3 → count ≤ most_letters n → 2 * n * count ≤ 24
+pub bits_few : (n count : ℕ) → 0 < n → n ≤ 3 → count ≤ most_letters n → 2 * n * count ≤ 24
 bits_few zero count some few short = absurd (omega arith)
 bits_few (suc zero) count some few short = omega arith
 bits_few (suc (suc zero)) count some few short = omega arith
@@ -98,7 +98,7 @@ room_of n (suc count) =
     ap (λ k. 2 ^ k) e ∙ pow-add 2 (2 * n * count) (2 * n) ∙ (λ i. room_of n count i * pow_four n i) ∙ sym (pow-suc (4 ^ n) count)
 
 -- the room of a word's letters
-room_few : (n count : ℕ) → 0 < n → n ≤ 3 → count ≤ most_letters n → (4 ^ n) ^ count ≤ 2 ^ 24
+pub room_few : (n count : ℕ) → 0 < n → n ≤ 3 → count ≤ most_letters n → (4 ^ n) ^ count ≤ 2 ^ 24
 room_few n count some few short = subst (λ p. p ≤ 2 ^ 24) (room_of n count) (pow_mono {i = 2 * n * count} {j = 24} (bits_few n count some few short))
 
 -- a packed word fits 24 bits

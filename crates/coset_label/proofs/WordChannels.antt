@@ -1,14 +1,14 @@
 -- The channel of a word is a circuit's channel, and so words of one coset have one label.
-use Rattle.std.proofs.Common.{◌≡◌, ℕ, ◌<◌, ◌≤◌, List, [], ◌∷◌}
+use Rattle.std.proofs.Common.{◌≡◌, ◌↔◌, ℕ, ◌<◌, ◌≤◌, List, [], ◌∷◌, sym, subst}
 use Rattle.std.specs.List.{AllByRecursion}
 use Rattle.std.proofs.lemmas.List.Elements.{All-from_recursion, recursion_from_All, All-push}
 use Rattle.channel_rep.specs.Tables.{by_rotation, IsStep, ScaledTable, IsBuiltOf, IsCircuitChannel}
 use Rattle.channel_rep.specs.Words.{IsWord}
 use Rattle.channel_rep.proofs.Independent.{circuit_independent}
 use Rattle.coset_label.specs.Cosets.{SameCoset, SameCosetWords}
-use Rattle.coset_label.specs.Labels.{Label, IsLabelOfWord}
+use Rattle.coset_label.specs.Labels.{Label, IsLabelOf, IsLabelOfWord}
 use Rattle.coset_label.specs.Words.{word_steps, word_channel}
-use Rattle.coset_label.proofs.OneCoset.{same_coset_sym, same_coset_trans, same_coset_of_same}
+use Rattle.coset_label.proofs.OneCoset.{same_coset_sym, same_coset_trans, same_coset_of_same, coset_refl, coset_sym}
 use Rattle.coset_label.proofs.OneLabel.{one_coset_of_label, one_label_of_coset}
 
 -- the rotations of a word
@@ -41,3 +41,26 @@ module _ (n : ℕ) (v w : List ℕ) (label other : Label) (is : IsLabelOfWord n 
   one_coset_of_words equal =
       same_coset_trans n (word_channel n v) is.channel (word_channel n w) (same_coset_sym n is.channel (word_channel n v) (labelled_coset n v label is))
       (same_coset_trans n is.channel is_other.channel (word_channel n w) (one_coset_of_label n is.channel is_other.channel label other is.is is_other.is equal) (labelled_coset n w other is_other))
+
+-- the label of a circuit's channel is that of a word exactly where the word lies in the channel's coset
+pub label_tells_word : (n : ℕ) → 0 < n → n ≤ 3 → (m : ScaledTable) → IsCircuitChannel n m → (w : List ℕ) → IsWord n w → (label other : Label) → IsLabelOf n m label → IsLabelOfWord n w other
+    → (label ≡ other) ↔ SameCoset n m (word_channel n w)
+label_tells_word n some few m circuit w hw label other is is_other =
+    let same = labelled_coset n w other is_other in (
+      λ e. same_coset_trans n m is_other.channel _ (one_coset_of_label n m is_other.channel label other is is_other.is e) same,
+      λ h.
+          one_label_of_coset n m is_other.channel (circuit_independent n some few m circuit) (circuit_independent n some few is_other.channel (word_circuit n w is_other.channel hw is_other.built)) label other is is_other.is
+          (same_coset_trans n m _ is_other.channel h (same_coset_sym n _ _ same)),
+    )
+
+module _ (n : ℕ) (some : 0 < n) (few : n ≤ 3) (w : List ℕ) (hw : IsWord n w) (label other : Label) (is_other : IsLabelOfWord n w other) where
+  -- a label equal to a word's is one of the word, and the word has no other
+  pub equal_is_label : (label ≡ other) ↔ IsLabelOfWord n w label
+  equal_is_label = (λ e. subst (IsLabelOfWord n w) (sym e) is_other, λ is. one_label_of_words n w w label other is is_other some few hw hw (coset_refl n w))
+
+  -- a label equal to a word's is one of the words of its coset alone
+  pub equal_is_coset : (v : List ℕ) → IsWord n v → IsLabelOfWord n v label → (label ≡ other) ↔ SameCosetWords n w v
+  equal_is_coset v hv is = (
+    λ e. coset_sym n v w (one_coset_of_words n v w label other is is_other e),
+    λ h. one_label_of_words n v w label other is is_other some few hv hw (coset_sym n w v h),
+  )

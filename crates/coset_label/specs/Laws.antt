@@ -1,10 +1,13 @@
 -- What the laws of this crate say.
 use Rattle.std.specs.Prelude.{◌≡◌, ◌↔◌, ℕ, ◌<◌, ◌≤◌, Bool, IsTrue, List}
+use Rattle.std.specs.Bool.{Decides}
 use Rattle.channel_rep.specs.Tables.{ScaledTable, IsCircuitChannel}
 use Rattle.channel_rep.specs.Words.{IsWord}
 use Rattle.coset_label.specs.Cosets.{SameCoset, SameCosetWords, DiffersByPermutation}
+use Rattle.coset_label.specs.Decided.{in_one_coset}
 use Rattle.coset_label.specs.Labels.{Label, IsLabelOf, IsLabelOfWord}
 use Rattle.coset_label.specs.Tags.{tag_of}
+use Rattle.coset_label.specs.Words.{word_channel}
 
 -- the labels of two circuits' channels are equal exactly where the channels lie in one coset
 abbrev pub LabelsTellCosets : Type 0
@@ -44,3 +47,21 @@ EqualLabelsMeanOneCoset = (n : ℕ) → 0 < n → n ≤ 3 → (v w : List ℕ) �
 abbrev pub WordsHaveOneLabel : Type 0
 WordsHaveOneLabel = (n : ℕ) → 0 < n → n ≤ 3 → (word : List ℕ) → IsWord n word → (label other : Label)
     → IsLabelOfWord n word label → IsLabelOfWord n word other → label ≡ other
+
+-- the label of a circuit's channel is that of a word exactly where the word lies in the channel's coset
+abbrev pub LabelsTellWords : Type 0
+LabelsTellWords = (n : ℕ) → 0 < n → n ≤ 3 → (m : ScaledTable) → IsCircuitChannel n m → (w : List ℕ) → IsWord n w → (label other : Label)
+    → IsLabelOf n m label → IsLabelOfWord n w other → (label ≡ other) ↔ SameCoset n m (word_channel n w)
+
+-- to lie in one coset is an equivalence on tables
+pub record IsTableEquivalence (n : ℕ) : Type 0 where
+  pub reflexive : (a : ScaledTable) → SameCoset n a a
+  pub symmetric : (a b : ScaledTable) → SameCoset n a b → SameCoset n b a
+  pub transitive : (a b c : ScaledTable) → SameCoset n a b → SameCoset n b c → SameCoset n a c
+
+abbrev pub TablesAreClasses : Type 0
+TablesAreClasses = (n : ℕ) → IsTableEquivalence n
+
+-- looking for each column of one table among those of the other tells whether they lie in one coset
+abbrev pub CosetsAreDecided : Type 0
+CosetsAreDecided = (n : ℕ) (a b : ScaledTable) → Decides (in_one_coset n a b) (SameCoset n a b)

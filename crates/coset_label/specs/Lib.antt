@@ -1,6 +1,9 @@
 pub mod Words
 pub mod Packing
 pub mod Cosets
+pub mod Order
+pub mod Kept
+pub mod Decided
 pub mod Labels
 pub mod Tags
 pub mod Scratch

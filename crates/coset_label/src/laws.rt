@@ -1,7 +1,7 @@
 //! The facts that join labels with cosets.
 //!
 //! Each of these functions does nothing. Its contract is the law, for a caller's proof to use.
-ghost use Rattle.coset_label.specs.Laws.{LabelsTellCosets, CosetsDifferByPermutations, CosetsAreClasses, CosetsHaveOneTag, EqualLabelsMeanOneCoset, WordsHaveOneLabel};
+ghost use Rattle.coset_label.specs.Laws.{LabelsTellCosets, CosetsDifferByPermutations, CosetsAreClasses, CosetsHaveOneTag, EqualLabelsMeanOneCoset, WordsHaveOneLabel, LabelsTellWords, TablesAreClasses, CosetsAreDecided};
 
 /// The labels of two circuits' channels are equal exactly where the channels lie in one coset.
 pub fn labels_tell_cosets()
@@ -31,4 +31,19 @@ pub fn equal_labels_mean_one_coset()
 /// A word has at most one label.
 pub fn words_have_one_label()
     ensures { WordsHaveOneLabel }
+{}
+
+/// The label of a circuit's channel is that of a word exactly where the word lies in the channel's coset.
+pub fn labels_tell_words()
+    ensures { LabelsTellWords }
+{}
+
+/// To lie in one coset is an equivalence on tables.
+pub fn tables_are_classes()
+    ensures { TablesAreClasses }
+{}
+
+/// Whether two tables lie in one coset is decided by their cells.
+pub fn cosets_are_decided()
+    ensures { CosetsAreDecided }
 {}

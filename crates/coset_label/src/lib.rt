@@ -13,7 +13,9 @@ mod scratch;
 mod sums;
 mod word;
 
-pub use scratch::{Scratch, label_into, label_of_word, same_label, tag};
+pub use scratch::{
+    Scratch, channel_of_word, label_into, label_of_front, label_of_word, lies_in, same_label, tag,
+};
 pub use word::Word;
 
 #[cfg(test)]

@@ -1,18 +1,21 @@
 // Labels of cosets, in room of their own.
-ghost use Rattle.std.specs.Prelude.{◌≡◌, ℕ, ◌^◌, ◌<◌, ◌≤◌, ◌↔◌, [], length, IsTrue, IfOk};
+ghost use Rattle.std.specs.Prelude.{◌≡◌, ◌≢◌, ℕ, ◌+◌, ◌^◌, ◌<◌, ◌≤◌, ◌↔◌, List, [], ◌∷◌, length, IsTrue, IfOk};
 ghost use Rattle.channel_rep.specs.Cells.{scaled, IsReduced};
-ghost use Rattle.channel_rep.specs.Tables.{IsBuiltOf};
+ghost use Rattle.channel_rep.specs.Tables.{ScaledTable, IsBuiltOf, IsCircuitChannel};
+ghost use Rattle.channel_rep.specs.Words.{IsWord};
+ghost use Rattle.coset_label.specs.Cosets.{SameCoset, SameCosetWords};
 ghost use Rattle.coset_label.specs.Labels.{IsLabelOf, IsLabelOfWord};
 ghost use Rattle.coset_label.specs.Laws.{TellsCosets};
 ghost use Rattle.coset_label.specs.Tags.{tag_of};
 ghost use Rattle.coset_label.specs.Scratch.{IsScratch, kept_label};
-ghost use Rattle.coset_label.specs.Words.{word_steps};
+ghost use Rattle.coset_label.specs.Words.{IsShortWord, word_steps, word_channel};
 
 use crate::Word;
 use crate::columns::{columns_of, find_leads, sort_columns};
 use crate::same::same_columns;
 use crate::sums::{label_fold, mixed};
 use channel_rep::Channel;
+use pauli_basis::Pauli;
 use std::alloc::{AllocError, Global};
 use std::marker::Model;
 
@@ -52,13 +55,14 @@ fn put_in_order(channel: &Channel, leads: &mut [u8], negative: &mut [bool], orde
     sort_columns(channel, size, leads, negative, order);
 }
 
-/// Makes the channel into that of a word, with the least exponent.
-fn make_channel(word: Word, channel: &mut Channel)
+/// Makes the channel into that of a word's product, with one factor 1/√2 for each letter. The last letter acts first.
+pub fn channel_of_word(word: Word, channel: &mut Channel)
     requires { word.qubits ≡ channel.old.qubits }
     ensures qubits { channel.new.qubits ≡ channel.old.qubits }
     ensures built { IsBuiltOf channel.old.qubits (word_steps word.letters) (scaled channel.new) }
-    ensures reduced { IsReduced channel.new }
-    ensures exponent { channel.new.exponent ≤ length word.letters }
+    ensures exponent { channel.new.exponent ≡ length word.letters }
+    ensures grown { channel.new.grown ≡ length word.letters }
+    ensures valid { IsShortWord word }
 {
     channel.make_identity();
     let mut left = word.len();
@@ -66,6 +70,23 @@ fn make_channel(word: Word, channel: &mut Channel)
         left -= 1;
         channel.left_rotation(word.letter(left));
     }
+}
+
+/// Makes the channel into that of a word with one more letter before its first, with the least exponent, where `suffix` is
+/// the channel of the word.
+fn channel_of_front(suffix: &Channel, letter: Pauli, channel: &mut Channel)
+    requires same { suffix.now.qubits ≡ channel.old.qubits }
+    requires letter { letter.qubits ≡ suffix.now.qubits }
+    requires other { letter.code ≢ 0 }
+    requires room { suffix.now.grown < 62 }
+    ensures qubits { channel.new.qubits ≡ channel.old.qubits }
+    ensures built { (w : List ℕ) → IsBuiltOf channel.old.qubits (word_steps w) (scaled suffix.now)
+        → IsBuiltOf channel.old.qubits (word_steps (letter.code ∷ w)) (scaled channel.new) }
+    ensures reduced { IsReduced channel.new }
+    ensures exponent { channel.new.exponent ≤ 1 + suffix.now.exponent }
+{
+    channel.copy_from(suffix);
+    channel.left_rotation(letter);
     channel.reduce();
 }
 
@@ -126,8 +147,26 @@ pub fn label_of_word(w: Word, s: &mut Scratch)
     ensures qubits { s.new.qubits ≡ s.old.qubits }
     ensures label { IsLabelOfWord w.qubits w.letters s.new.label }
     ensures exponent { s.new.label.exponent ≤ length w.letters }
+    ensures valid { IsShortWord w }
 {
-    make_channel(w, &mut s.channel);
+    channel_of_word(w, &mut s.channel);
+    s.channel.reduce();
+    put_in_order(&s.channel, &mut s.leads, &mut s.negative, &mut s.order);
+}
+
+/// Makes `s` hold the label of a word with one more letter before its first, where the channel is that of the word. So what
+/// words that differ in their first letter share is made once.
+pub fn label_of_front(suffix: &Channel, letter: Pauli, s: &mut Scratch)
+    requires same { suffix.now.qubits ≡ s.old.qubits }
+    requires letter { letter.qubits ≡ suffix.now.qubits }
+    requires other { letter.code ≢ 0 }
+    requires room { suffix.now.grown < 62 }
+    ensures qubits { s.new.qubits ≡ s.old.qubits }
+    ensures label { (w : List ℕ) → IsBuiltOf s.old.qubits (word_steps w) (scaled suffix.now)
+        → IsLabelOfWord s.old.qubits (letter.code ∷ w) s.new.label }
+    ensures exponent { s.new.label.exponent ≤ 1 + suffix.now.exponent }
+{
+    channel_of_front(suffix, letter, &mut s.channel);
     put_in_order(&s.channel, &mut s.leads, &mut s.negative, &mut s.order);
 }
 
@@ -156,6 +195,22 @@ pub fn same_label(a: &Scratch, b: &Scratch) -> bool
     ensures cosets { TellsCosets a.now.qubits a.now.label b.now.label result }
 {
     equal_labels(a, b)
+}
+
+/// Whether a word lies in the coset whose label is given. What `other` holds afterwards is left open: it is room for the
+/// test.
+pub fn lies_in(label: &Scratch, word: Word, other: &mut Scratch) -> bool
+    requires label { label.now.qubits ≡ word.qubits }
+    requires other { other.old.qubits ≡ word.qubits }
+    ensures other { other.new.qubits ≡ other.old.qubits }
+    ensures words { (v : List ℕ) → IsWord word.qubits v → IsLabelOfWord word.qubits v label.now.label
+        → IsTrue result ↔ SameCosetWords word.qubits word.letters v }
+    ensures channels { (m : ScaledTable) → IsCircuitChannel word.qubits m → IsLabelOf word.qubits m label.now.label
+        → IsTrue result ↔ SameCoset word.qubits m (word_channel word.qubits word.letters) }
+    ensures label { IsTrue result ↔ IsLabelOfWord word.qubits word.letters label.now.label }
+{
+    label_of_word(word, other);
+    equal_labels(label, other)
 }
 
 /// The tag of a label, a number of 38 bits: equal labels have equal tags, and others mostly don't.

@@ -1,7 +1,10 @@
 ghost use Rattle.std.specs.Prelude.{◌≡◌, ◌≢◌, ◌+◌, ◌<◌, ◌≤◌, length, IfOk};
 ghost use Rattle.coset_label.specs.Words.{most_letters};
 
-use crate::{Scratch, Word, label_into, label_of_word, same_label, tag};
+use crate::{
+    Scratch, Word, channel_of_word, label_into, label_of_front, label_of_word, lies_in, same_label,
+    tag,
+};
 use channel_rep::Channel;
 use pauli_basis::Pauli;
 use std::alloc::{AllocError, Global};
@@ -121,6 +124,74 @@ fn a_channel_has_the_label_of_its_word(rt: HostRuntime) -> Result<(), Fail> {
     assert!(rt; !same_label(&s, &other));
     label_of_word(word(3, &[27, 54])?, &mut other);
     assert!(rt; same_label(&s, &other));
+    Ok(())
+}
+
+#[test]
+fn letters_make_their_word(rt: HostRuntime) -> Result<(), Fail> {
+    let w = Word::from_letters(2, 2, 243);
+    assert!(rt; w == word(2, &[15, 3])?);
+    assert!(rt; w != word(2, &[3, 15])?);
+    Ok(())
+}
+
+/// Whether a word with one more letter before its first has the label that is made of the word's channel.
+fn front_agrees(alloc: Global, w: Word, c: &Channel, letter: Pauli) -> Result<bool, AllocError>
+    requires qubits { w.qubits ≡ 2 }
+    requires room { length w.letters < 6 }
+    requires channel { c.now.qubits ≡ 2 }
+    requires grown { c.now.grown < 62 }
+    requires letter { letter.qubits ≡ 2 }
+    requires other { letter.code ≢ 0 }
+{
+    let mut s = Scratch::new(alloc, 2)?;
+    let mut t = Scratch::new(alloc, 2)?;
+    label_of_front(c, letter, &mut s);
+    label_of_word(w.push_front(letter), &mut t);
+    Ok(same_label(&s, &t))
+}
+
+#[test]
+fn a_front_has_the_label_of_its_word(rt: HostRuntime) -> Result<(), Fail> {
+    let rows: [(&[u8], u8); 4] = [
+        (&[], 15),
+        (&[3], 15),
+        (&[15, 3], 15),
+        (&[1, 6, 11, 12, 7], 9),
+    ];
+    for (codes, code) in rows {
+        let w = word(2, codes)?;
+        let letter = pauli(2, code)?;
+        let mut c = Channel::identity(rt.alloc(), 2)?;
+        channel_of_word(w, &mut c);
+        if w.len() < 6 {
+            assert!(rt;
+                front_agrees(rt.alloc(), w, &c, letter)?,
+                "{code} before {codes:?}"
+            );
+        }
+    }
+    Ok(())
+}
+
+#[test]
+fn words_lie_in_these_cosets(rt: HostRuntime) -> Result<(), Fail> {
+    let rows: [(&[u8], &[u8], bool); 4] = [
+        (&[15, 3], &[3, 15], true),
+        (&[1, 3], &[3, 1], false),
+        (&[3], &[3, 3, 3], true),
+        (&[3], &[12], false),
+    ];
+    for (codes, others, same) in rows {
+        let mut s = Scratch::new(rt.alloc(), 2)?;
+        let mut t = Scratch::new(rt.alloc(), 2)?;
+        label_of_word(word(2, codes)?, &mut s);
+        assert_eq!(rt;
+            lies_in(&s, word(2, others)?, &mut t),
+            same,
+            "{codes:?} and {others:?}"
+        );
+    }
     Ok(())
 }
 

@@ -3,6 +3,7 @@ ghost use Rattle.std.specs.Prelude.{◌≡◌, ◌≢◌, ◌^◌, ◌<◌, ◌�
 ghost use Rattle.std.specs.Ordering.{nat_cmp};
 ghost use Rattle.std.specs.declared.cmp.Ordering.TheVariants.{Less};
 ghost use Rattle.std.specs.Cmp.Lexicographic.{slice_cmp};
+ghost use Rattle.coset_label.specs.Packing.{digits, IsPackedWord};
 ghost use Rattle.coset_label.specs.Words.{RotationWord, IsShortWord, most_letters, packed};
 
 use pauli_basis::Pauli;
@@ -45,6 +46,15 @@ impl Word {
             len: 0,
             letters: 0,
         }
+    }
+
+    /// The word of so many letters on n qubits that are packed into one number, 2n bits each, the first letter highest.
+    pub fn from_letters(n: u8, len: u8, letters: u32) -> Word
+        requires { IsPackedWord n len letters }
+        ensures qubits { result.qubits ≡ n }
+        ensures letters { result.letters ≡ digits (4 ^ n) len letters }
+    {
+        Word { n, len, letters }
     }
 
     /// The word with one more letter before its first.
@@ -110,6 +120,7 @@ impl Word {
     pub fn letters(&self) -> u32
         ensures value { result ≡ packed self.now.qubits self.now.letters }
         ensures low { result < 2 ^ 24 }
+        ensures valid { IsShortWord self.now }
     {
         self.letters
     }

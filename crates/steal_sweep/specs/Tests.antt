@@ -1,7 +1,11 @@
 -- A test that answers by the position alone, on every fit local.
-use Rattle.std.specs.Prelude.{◌≡◌, ℕ, ◌<◌, Bool, true}
+use Rattle.std.specs.Prelude.{◌≡◌, ℕ, ◌<◌, Bool, true, ◌&&◌}
 
 module _ {T L : Type 0} where
+  -- the local is fit, and fits this test
+  abbrev pub fit_for : (T → L → Bool) → (L → Bool) → T → L → Bool
+  fit_for fits fit test l = fits test l && fit l
+
   -- at each position below total the test may be called on every fit local
   abbrev pub MayBeCalled : (T → L → ℕ → Bool) → T → (L → Bool) → ℕ → Type 0
   MayBeCalled may test fit total = (p : ℕ) (l : L) → p < total → fit l ≡ true → may test l p ≡ true

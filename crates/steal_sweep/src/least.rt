@@ -1,6 +1,7 @@
 // The least hit of a sweep.
 ghost use Rattle.std.specs.Prelude.{◌≡◌, ℕ, ◌<◌, ◌≤◌, Bool, true, false, length, All, map, sum_by, IfSome, IfNone};
 ghost use Rattle.work_shares.specs.Shares.{AreDeal, IsFresh, load_of};
+ghost use Rattle.steal_sweep.specs.Tests.{fit_for};
 ghost use Rattle.steal_sweep.specs.Searches.{IsHit, IsLeastHit};
 ghost use Rattle.steal_sweep.specs.Seats.{IsSeatOf, AreNewSeatsOf, known_by};
 
@@ -53,8 +54,9 @@ pub fn least_hit<
     gate: &G,
 ) -> Option<u64>
     requires deal { (block : ℕ) × AreDeal sweep.now.total block shares.items }
+    requires needs { F.needs sweep.now.test }
     requires fresh { All IsFresh shares.items }
-    requires fit { All (λ seeker. L.fit seeker.local ≡ true) (map load_of shares.items) }
+    requires fit { All (λ seeker. fit_for F.fits L.fit sweep.now.test seeker.local ≡ true) (map load_of shares.items) }
     requires seats { AreNewSeatsOf best (map (λ seeker. seeker.seat) (map load_of shares.items)) }
     ensures some { IfSome result (λ p. IsLeastHit (F.truth sweep.now.test) sweep.now.total p) }
     ensures none { IfNone result ((p : ℕ) → p < sweep.now.total → F.truth sweep.now.test p ≡ false) }

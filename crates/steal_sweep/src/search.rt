@@ -1,5 +1,6 @@
 // The search for the least hit, as a job.
 ghost use Rattle.std.specs.Prelude.{◌≡◌, ℕ, ◌<◌, true, List, [], ◌∷◌, ◌++◌};
+ghost use Rattle.steal_sweep.specs.Tests.{fit_for};
 ghost use Rattle.steal_sweep.specs.Searches.{StandsFor, Seeks};
 
 use crate::best::{Best, BestSeat};
@@ -18,8 +19,8 @@ pub struct Seeker<L> {
 /// The search for the least hit of a sweep: the job that the workers of `least_hit` do.
 ///
 /// At each position a worker loads the best word, skips the position where that word is no greater, and asks the test
-/// everywhere else. A seeker stands for the positions of a list where its local is fit, what its seat put are hits, and the
-/// seat knows a number that no hit of the list is below.
+/// everywhere else. A seeker stands for the positions of a list where its local is fit and fits the test, what its seat put
+/// are hits, and the seat knows a number that no hit of the list is below.
 ///
 /// A caller who wants the seekers back gives it to `for_each`.
 #[derive(Drop)]
@@ -33,19 +34,20 @@ pub struct Search<'a, L: Local, F: Test<L>> {
 impl<'a, L: Local, F: Test<L>> Job<Seeker<L>> for Search<'a, L, F> {
     ghost use Rattle.steal_sweep.specs.Seats.{IsSeatOf, known_by};
 
-    ghost own = { λ job position. position < job.sweep.now.total };
+    ghost own = { λ job position. (position < job.sweep.now.total) × F.needs job.sweep.now.test };
 
     ghost stands = { λ job seeker done.
-        StandsFor L.fit job.best.now (F.truth job.sweep.now.test) job.sweep.now.total seeker done };
+        StandsFor (fit_for F.fits L.fit job.sweep.now.test) job.best.now (F.truth job.sweep.now.test) job.sweep.now.total seeker done };
 
     ghost name = { λ job seeker. (known_by seeker.seat).parts ∷ [] };
 
     /// Loads the best word, and asks the test unless that word is no greater than the position.
     fn turn(&self, seeker: &mut Seeker<L>, position: u64)
         requires own { position < self.now.sweep.now.total }
-        requires fit { L.fit seeker.old.local ≡ true }
+        requires needs { F.needs self.now.sweep.now.test }
+        requires fit { fit_for F.fits L.fit self.now.sweep.now.test seeker.old.local ≡ true }
         requires seat { IsSeatOf self.now.best.now seeker.old.seat }
-        ensures stands { let stands = StandsFor L.fit self.now.best.now (F.truth self.now.sweep.now.test) self.now.sweep.now.total in
+        ensures stands { let stands = StandsFor (fit_for F.fits L.fit self.now.sweep.now.test) self.now.best.now (F.truth self.now.sweep.now.test) self.now.sweep.now.total in
             (done : List ℕ) → stands seeker.old done → stands seeker.new (done ++ position ∷ []) }
         ensures name { (known_by seeker.new.seat).parts ∷ [] ≡ (known_by seeker.old.seat).parts ∷ [] }
         ensures seeks { Seeks F.gives self.now.sweep.now.test seeker.old position seeker.new }

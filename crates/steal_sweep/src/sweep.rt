@@ -1,17 +1,25 @@
 // A test beside the fact that it answers.
-ghost use Rattle.std.specs.Prelude.{◌≡◌, ℕ, ◌<◌, Bool, true};
-ghost use Rattle.steal_sweep.specs.Tests.{MayBeCalled, LeavesFit, AnswersBy};
+ghost use Rattle.std.specs.Prelude.{◌≡◌, ℕ, ◌<◌, Bool, true, ⊤};
+ghost use Rattle.steal_sweep.specs.Tests.{fit_for, MayBeCalled, LeavesFit, AnswersBy};
 
 use std::marker::PhantomData;
 
 /// What a worker tests with.
 pub trait Local {
-    /// Whether it is fit to test with.
+    /// Whether it is fit to test with, whatever the test is.
     ghost fit: { Self → Bool };
 }
 
 /// A test of positions, made with what a worker carries.
 pub trait Test<L> {
+    /// Whether a local fits this very test: what it keeps from one position to the next is of this test's values. A local
+    /// that keeps nothing fits every test.
+    ghost fits: { Self → L → Bool } = { λ _ _. true };
+
+    /// What has to hold of the test wherever it is asked. It may have more than one proof, so no sweep keeps it: whoever
+    /// searches shows it.
+    ghost needs: { Self → Type 0 } = { λ _. ⊤ };
+
     /// Whether it may be called on a local and a position.
     ghost may: { Self → L → ℕ → Bool };
 
@@ -23,12 +31,13 @@ pub trait Test<L> {
 
     /// Whether the position is a hit.
     fn answer(&self, local: &mut L, position: u64) -> bool
-        requires { may self.now local.old position ≡ true }
+        requires may { may self.now local.old position ≡ true }
+        requires needs { needs self.now }
         ensures { gives self.now local.old position result local.new };
 }
 
-/// A test of the positions below `total`, beside the fact that it answers: on every fit local it may be called at each of
-/// them, leaves the local fit, and answers its truth value there, whatever the local is.
+/// A test of the positions below `total`, beside the fact that it answers: on every fit local that fits the test it may be
+/// called at each of them, leaves the local so, and answers its truth value there, whatever the local is.
 #[derive(Drop)]
 pub struct Sweep<L: Local, F: Test<L>> {
     /// The number of positions, which begin at 0.
@@ -36,20 +45,20 @@ pub struct Sweep<L: Local, F: Test<L>> {
     /// The test.
     pub test: F,
     of: PhantomData<L>,
-    /// It may be called at each position on every fit local.
-    pub ghost may: { MayBeCalled F.may test L.fit total },
-    /// A call leaves a fit local fit.
-    pub ghost stays: { LeavesFit F.gives test L.fit total },
-    /// A call on a fit local answers the position's truth value.
-    pub ghost answers: { AnswersBy F.gives test L.fit total (F.truth test) },
+    /// It may be called at each position on every fit local that fits it.
+    pub ghost may: { MayBeCalled F.may test (fit_for F.fits L.fit test) total },
+    /// A call leaves such a local fit, and fitting the test.
+    pub ghost stays: { LeavesFit F.gives test (fit_for F.fits L.fit test) total },
+    /// A call on such a local answers the position's truth value.
+    pub ghost answers: { AnswersBy F.gives test (fit_for F.fits L.fit test) total (F.truth test) },
 }
 
 impl<L: Local, F: Test<L>> Sweep<L, F> {
     /// A sweep over the positions below `total`.
     pub fn new(total: u64, test: F) -> Sweep<L, F>
-        requires may { MayBeCalled F.may test L.fit total }
-        requires stays { LeavesFit F.gives test L.fit total }
-        requires answers { AnswersBy F.gives test L.fit total (F.truth test) }
+        requires may { MayBeCalled F.may test (fit_for F.fits L.fit test) total }
+        requires stays { LeavesFit F.gives test (fit_for F.fits L.fit test) total }
+        requires answers { AnswersBy F.gives test (fit_for F.fits L.fit test) total (F.truth test) }
         ensures total { result.total ≡ total }
         ensures test { result.test ≡ test }
     {
@@ -62,9 +71,10 @@ impl<L: Local, F: Test<L>> Sweep<L, F> {
 
     /// The truth value at a position.
     pub(crate) fn at(&self, local: &mut L, position: u64) -> bool
-        requires fit { L.fit local.old ≡ true }
+        requires fit { fit_for F.fits L.fit self.now.test local.old ≡ true }
+        requires needs { F.needs self.now.test }
         requires position { position < self.now.total }
-        ensures fit { L.fit local.new ≡ true }
+        ensures fit { fit_for F.fits L.fit self.now.test local.new ≡ true }
         ensures truth { result ≡ F.truth self.now.test position }
         ensures gives { F.gives self.now.test local.old position result local.new }
     {

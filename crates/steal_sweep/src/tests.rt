@@ -2,11 +2,13 @@ ghost use Rattle.std.specs.Prelude.{◌≡◌, ◌<◌, length, IfOk};
 
 mod gates;
 mod marks;
+mod rows;
 mod tables;
 
 use crate::OpenWay;
 use gates::{Delays, Meeting, Turns, mixed};
 use marks::mark;
+use rows::{first_in_rows, reads_of_one};
 use std::alloc::{AllocError, Global};
 use std::test::Fail;
 use tables::{asked, asked_in_turn, counted, search};
@@ -58,6 +60,20 @@ fn a_hit_of_another_seat_is_seen(rt: HostRuntime) -> Result<(), Fail> {
     let truths = table_of(rt.alloc(), 8, &[3])?;
     // The second seeker asks at 0. The first finds the hit at 3, and the second, which loads the word again, skips 5.
     assert_eq!(rt; asked_in_turn(rt.alloc(), &truths)?, (1, 1));
+    Ok(())
+}
+
+#[test]
+fn a_local_keeps_what_it_has_read(rt: HostRuntime) -> Result<(), Fail> {
+    let numbers = [9, 8, 9, 5, 0, 8, 9, 8, 8, 7];
+    for workers in [1, 2, 3, 8u32] {
+        assert_eq!(rt;
+            first_in_rows(&rt, rt.alloc(), &numbers, workers)?,
+            Some(29)
+        );
+    }
+    // Ten rows of eight positions, and each row's number is read once.
+    assert_eq!(rt; reads_of_one(&rt, rt.alloc(), &[8; 10])?, 10);
     Ok(())
 }
 

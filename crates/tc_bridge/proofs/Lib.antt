@@ -32,3 +32,5 @@ pub mod Traces
 pub mod Clauses
 pub mod Prefixes
 pub mod Taken
+pub mod Codes
+pub mod CliffordTables

@@ -2,7 +2,7 @@ use Rattle.std.proofs.Common.{◌∙◌}
 use Rattle.channel_rep.specs.Cells.{scaled}
 use Rattle.clifford_rest.specs.Rest.{undo_gates}
 use Rattle.clifford_rest.proofs.Rests.{undo_fits, undo_short, undone_table}
-use Rattle.clifford_rest.proofs.Tables.{gates_exponent}
+use Rattle.tc_bridge.proofs.CliffordTables.{gates_exponent}
 use Rattle.clifford_rest.proofs.laws.sweeps_end_at_identity.Goals as goal
 
 pub returns : goal.returns

@@ -3,17 +3,18 @@ use Rattle.std.proofs.lemmas.List.Elements.{All-map, All-same}
 use Rattle.work_shares.specs.declared.share.Share.{Share}
 use Rattle.work_shares.specs.Shares.{load_of, blocks_of}
 use Rattle.steal_sweep.specs.declared.search.Seeker.{Seeker}
+use Rattle.steal_sweep.specs.Tests.{fit_for}
 use Rattle.steal_sweep.specs.Seats.{IsSeatOf, known_by}
 use Rattle.work_shares.proofs.Kept.{AreDeal-size}
 use Rattle.steal_sweep.proofs.Found.{stands_for_none, carried_by, parts_whole, no_hit_below, put_hits, word_is_least, none_below}
 use Rattle.steal_sweep.proofs.least.least_hit.Goals as goal
 
 pub for_each-requires-clause-deal : goal.for_each-requires-clause-deal
-for_each-requires-clause-deal g c κs within = (c.args.sweep.now.total, (c.requires.deal.0, c.requires.deal.1, λ p lt. lt))
+for_each-requires-clause-deal g c κs within = (c.args.sweep.now.total, (c.requires.deal.0, c.requires.deal.1, λ p lt. (lt, c.requires.needs)))
 
 pub for_each-requires-clause-stands : goal.for_each-requires-clause-stands
 for_each-requires-clause-stands g c κs within =
-    stands_for_none g.L.Local.fit c.args.best (g.F.Test.truth c.args.sweep.now.test) c.args.sweep.now.total (map load_of c.args.shares.items) c.requires.fit c.requires.seats
+    stands_for_none (fit_for g.F.Test.fits g.L.Local.fit c.args.sweep.now.test) c.args.best (g.F.Test.truth c.args.sweep.now.test) c.args.sweep.now.total (map load_of c.args.shares.items) c.requires.fit c.requires.seats
 
 pub settle-requires : goal.settle-requires
 settle-requires g c = (c.args.sweep.now.total, (c.requires.deal.0, c.for_each.ensures.deal c.args.sweep.now.total c.requires.deal.0 c.requires.deal.1))

@@ -1,0 +1,19 @@
+-- The first levels of one qubit, computed from the definition.
+use Rattle.std.proofs.Common.{◌≡◌, [], ◌∷◌, refl}
+use Rattle.ring_laws.specs.Matrix.{identity, product, sum}
+use Rattle.ring_laws.specs.Ring.{power}
+use Rattle.tc_ring.specs.Surds.{root2_surd, surd_integer, surd_negative, surd_plus, surd_times}
+use Rattle.pauli_basis.specs.Products.{commute, clashes, anti_sign, turns}
+use Rattle.channel_rep.specs.Tables.{signed, rotation_table}
+use Rattle.coset_label.specs.Decided.{in_one_coset}
+use Rattle.level_laws.specs.Levels.{has_word, level}
+
+-- each letter
+pub one_letter : level 1 1 ≡ (1 ∷ []) ∷ (2 ∷ []) ∷ (3 ∷ []) ∷ []
+unfolding level has_word in_one_coset signed rotation_table commute clashes anti_sign turns identity product sum power root2_surd surd_integer surd_negative surd_plus surd_times
+one_letter = refl
+
+-- two letters that differ: twice the same letter is in the coset of the empty word
+pub two_letters : level 1 2 ≡ (1 ∷ 2 ∷ []) ∷ (1 ∷ 3 ∷ []) ∷ (2 ∷ 1 ∷ []) ∷ (2 ∷ 3 ∷ []) ∷ (3 ∷ 1 ∷ []) ∷ (3 ∷ 2 ∷ []) ∷ []
+unfolding level has_word in_one_coset signed rotation_table commute clashes anti_sign turns identity product sum power root2_surd surd_integer surd_negative surd_plus surd_times
+two_letters = refl

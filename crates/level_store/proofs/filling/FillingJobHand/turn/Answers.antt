@@ -1,0 +1,32 @@
+use Rattle.std.proofs.Common.{◌≡◌, ◌∙◌, ℕ, List, ap, ◌++◌, ◌∷◌, [], sym, subst, true, false, length}
+use Rattle.coset_label.specs.Labels.{IsLabelOfWord}
+use Rattle.coset_label.specs.Words.{RotationWord}
+use Rattle.level_laws.specs.Levels.{candidate_at}
+use Rattle.level_store.specs.Filling.{last_letters}
+use Rattle.level_store.specs.Hands.{IsSuffix}
+use Rattle.level_store.specs.Stored.{qubits_of_all}
+use Rattle.level_store.proofs.Tops.{turn_long, offers_new, offers_old}
+use Rattle.level_store.proofs.filling.FillingJobHand.turn.Goals as goal
+
+pub offer-requires-clause-len : goal.offer-requires-clause-len
+offer-requires-clause-len c =
+    let s = c.args.self.now.levels.now in
+    let own = c.requires.own in
+    ap (λ (w : RotationWord). length w.letters) c.push_front-candidate.ensures ∙ ap length c.parts_at-letter.ensures.is ∙ turn_long s own.1.levels c.args.position own.0 ∙ sym own.1.len
+
+pub returns-then-is_new-clause-stands : goal.returns-then-is_new-clause-stands
+returns-then-is_new-clause-stands c = λ done stood.
+    let s = c.args.self.now.levels.now in
+    let own = c.requires.own in
+    let parts = c.parts_at-letter in
+    let letters = parts.result.0.code ∷ parts.result.1.letters in
+    let put : c.push_front-candidate.result ≡ record { qubits = parts.result.1.qubits; letters = letters } = c.push_front-candidate.ensures in
+    let label : IsLabelOfWord parts.result.0.qubits letters c.label_with.new.label.label =
+    subst (λ (w : RotationWord). IsLabelOfWord parts.result.0.qubits (parts.result.0.code ∷ w.letters) c.label_with.new.label.label) c.turn_to.ensures.word c.label_with.ensures.label in (
+      record { label = c.label_with.ensures.qubits ∙ stood.0.label; other = c.offer.ensures.other ∙ (c.is_new.ensures.other ∙ stood.0.other); suffix = subst (λ q. IsSuffix q c.turn_to.new.self) parts.ensures.word.qubits c.turn_to.ensures.suffix },
+      record {
+        of = c.offer.ensures.seat;
+        offered = λ test tells. c.offer.ensures.offers ∙ (λ k. stood.1.offered test tells k ++ (put k).letters ∷ [])
+            ∙ sym (offers_new s own.1.levels c.args.position own.0 parts.result.0.qubits letters c.label_with.new.label.label parts.ensures.letter parts.ensures.is label c.is_new.result c.is_new.ensures.new test tells c.if-is_new.true done);
+      },
+    )

@@ -1,0 +1,145 @@
+// A table filled with the candidates of the last level.
+ghost use Rattle.std.specs.Prelude.{◌≡◌, ◌≢◌, ℕ, ◌+◌, ◌^◌, ◌<◌, ◌≤◌, ◌∷◌, IfOk, length};
+ghost use Rattle.coset_label.specs.Words.{most_letters};
+ghost use Rattle.coset_table.specs.Ends.{counts_in};
+ghost use Rattle.level_laws.specs.Levels.{candidate_at};
+ghost use Rattle.level_store.specs.Filling.{position_count, height_of, last_letters, IsFilled, OffersAdd, TellsNew};
+ghost use Rattle.level_store.specs.Stored.{qubits_of_all, levels_of, letters_in, AreLevels, IsStored, IsStoredWord};
+
+use crate::hand::{Hand, hands_of, seats_of};
+use crate::level::Level;
+use crate::levels::Levels;
+use coset_label::{Scratch, Word};
+use coset_table::{Buckets, OpenTable, start_table};
+use pauli_basis::Pauli;
+use std::alloc::{AllocError, Global};
+use std::thread::Threads;
+use steal_sweep::{Job, Turnstile, for_each};
+use work_shares::{deal, settle};
+
+/// How many positions a block has that a worker takes.
+const BLOCK: u32 = 64;
+
+/// The job to offer the candidates of the last level to a table.
+#[derive(Drop)]
+pub struct Filling<'a> {
+    pub table: &'a OpenTable,
+    pub levels: &'a Levels,
+}
+
+impl<'a> Job<Hand> for Filling<'a> {
+    ghost use Rattle.std.specs.Prelude.{◌≡◌, ◌<◌};
+    ghost use Rattle.coset_table.specs.Seats.{numbers_of};
+    ghost use Rattle.level_store.specs.Filling.{position_count, IsFilling, StandsFor};
+    ghost use Rattle.level_store.specs.Hands.{IsHand};
+    ghost use Rattle.level_store.specs.Stored.{qubits_of_all};
+
+    ghost own = { λ job p. (p < position_count job.levels.now) × IsFilling job.table.now job.levels.now };
+
+    ghost stands = { λ job hand done. IsHand (qubits_of_all job.levels.now) hand
+        × StandsFor job.table.now job.levels.now hand.seat done };
+
+    ghost name = { λ job hand. numbers_of hand.seat };
+
+    fn turn(&self, local: &mut Hand, position: u64) {
+        let (letter, word) = self.levels.parts_at(position);
+        local.suffix.turn_to(word);
+        local.suffix.label_with(letter, &mut local.label);
+        if self.levels.is_new(&local.label, &mut local.other) {
+            let candidate = word.push_front(letter);
+            self.table
+                .offer(&mut local.seat, candidate, &local.label, &mut local.other);
+        }
+    }
+}
+
+impl Levels {
+    /// The last level.
+    fn last(&self) -> &Level
+        requires levels { AreLevels self.now }
+        ensures stored { IsStored (qubits_of_all self.now) (height_of self.now) result.now }
+        ensures letters { letters_in result.now ≡ last_letters self.now }
+    {
+        self.level(self.height())
+    }
+
+    /// The number of letters that a word may begin with.
+    fn letters(&self) -> u64
+        requires levels { AreLevels self.now }
+        ensures { result + 1 ≡ 4 ^ qubits_of_all self.now }
+    {
+        (1 << (2 * self.n)) - 1
+    }
+
+    /// The number of positions of the last level's candidates.
+    fn positions(&self) -> u64
+        requires levels { AreLevels self.now }
+        requires room { length (levels_of self.now) ≤ most_letters (qubits_of_all self.now) }
+        ensures value { result ≡ position_count self.now }
+        ensures few { result < 2 ^ 24 }
+    {
+        self.last().count() * self.letters()
+    }
+
+    /// The candidate at a position, in its two parts: a letter, and the word of the last level that it stands before.
+    fn parts_at(&self, position: u64) -> (Pauli, Word)
+        requires levels { AreLevels self.now }
+        requires room { length (levels_of self.now) ≤ most_letters (qubits_of_all self.now) }
+        requires position { position < position_count self.now }
+        ensures letter { result.0.qubits ≡ qubits_of_all self.now }
+        ensures other { result.0.code ≢ 0 }
+        ensures word { IsStoredWord (qubits_of_all self.now) (height_of self.now) result.1 }
+        ensures room { length result.1.letters < most_letters (qubits_of_all self.now) }
+        ensures is { result.0.code ∷ result.1.letters ≡ candidate_at (qubits_of_all self.now) (last_letters self.now) position }
+    {
+        let letters = self.letters();
+        let Some(letter) = Pauli::new(self.n, (position % letters + 1) as u8) else {
+            unreachable!()
+        };
+        (letter, self.last().word(position / letters))
+    }
+
+    /// Whether the coset with a label stands neither in the last level nor in the one below.
+    fn is_new(&self, label: &Scratch, other: &mut Scratch) -> bool
+        requires levels { AreLevels self.now }
+        requires label { label.now.qubits ≡ qubits_of_all self.now }
+        requires other { other.old.qubits ≡ qubits_of_all self.now }
+        ensures other { other.new.qubits ≡ other.old.qubits }
+        ensures new { TellsNew self.now label.now.label result }
+    {
+        if self.last().find(label, other).is_some() {
+            return false;
+        }
+        let top = self.height();
+        top == 0 || self.level(top - 1).find(label, other).is_none()
+    }
+
+    /// The buckets of a table that workers filled with the candidates of the last level. While they fill it, nothing is taken
+    /// from an allocator.
+    pub(crate) fn fill<H: Threads + Sync, G: Turnstile + Sync>(
+        &self,
+        th: &H,
+        alloc: Global,
+        workers: u32,
+        gate: &G,
+    ) -> Result<Buckets, AllocError>
+        requires levels { AreLevels self.now }
+        requires room { length (levels_of self.now) ≤ most_letters (qubits_of_all self.now) }
+        requires some { 1 ≤ workers }
+        requires few { workers ≤ 8 }
+        ensures filled { IfOk result (IsFilled self.now) }
+        ensures seats { IfOk result (λ b. length (counts_in b) ≡ workers) }
+        ensures sum { IfOk result (OffersAdd self.now) }
+    {
+        let (table, seats) = start_table(alloc, self.n, self.list.len() as u8, workers)?;
+        let hands = hands_of(alloc, self.n, seats)?;
+        let mut shares = deal(alloc, self.positions(), BLOCK, hands)?;
+        let filling = Filling {
+            table: &table,
+            levels: self,
+        };
+        for_each(th, &mut shares, &filling, gate);
+        let seats = seats_of(alloc, settle(shares).loads())?;
+        table.close(alloc, seats)
+    }
+}

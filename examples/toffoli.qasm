@@ -1,0 +1,3 @@
+OPENQASM 2.0;
+qreg q[3];
+ccx q[0],q[1],q[2];
