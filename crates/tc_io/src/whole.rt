@@ -1,5 +1,5 @@
 //! A source that is read to its end, and bytes that are written whole.
-ghost use Rattle.std.specs.Prelude.{◌≤◌, ◌+◌, IfOk, OnOk, OnErr, IsErrOf};
+ghost use Rattle.std.specs.Prelude.{◌≡◌, ◌≤◌, ◌+◌, IfOk, OnOk, OnErr, IsErrOf};
 ghost use Rattle.std.specs.Io.KnownBytes.{Appends};
 ghost use Rattle.tc_io.specs.Fault.{Rose, HasCause};
 ghost use Rattle.tc_io.specs.Stream.{ReadsAll, TakesFront, TakesAtMost, AppendsPart};
@@ -25,7 +25,7 @@ const CHUNK: usize = 4096;
 /// and what was read stays taken, whatever the answer.
 ///
 /// # Errors
-/// - [`ReadAllFault::Failed`] only where the source's count of faults rose in this call.
+/// - [`ReadAllFault::Failed`] only where the source's count of faults rose in this call. It stands still at each other answer.
 /// - [`ReadAllFault::TooLong`] where the source gave more than `limit` bytes, no read having
 ///   failed. Exactly `limit + 1` bytes were taken.
 /// - [`ReadAllFault::Memory`] at want of memory.
@@ -37,6 +37,7 @@ pub fn read_all<S: Source>(
     ensures ok { IfOk result (λ bytes. ReadsAll limit (S.left src.old) (S.left src.new) bytes.items) }
     ensures too_long { IsErrOf result ReadAllFault.TooLong → TakesFront (limit + 1) (S.left src.old) (S.left src.new) }
     ensures failed { IsErrOf result ReadAllFault.Failed → Rose (S.faults src.old) (S.faults src.new) }
+    ensures still { (IsErrOf result ReadAllFault.Failed → ⊥) → S.faults src.new ≡ S.faults src.old }
 
     // Whatever the answer, the count of faults never falls.
     ensures part { OnErr result (TakesAtMost (limit + 1) (S.left src.old) (S.left src.new)) }

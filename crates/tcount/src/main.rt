@@ -7,6 +7,8 @@ use std::env;
 use std::io::ErrorKind;
 use std::process::ExitCode;
 use std::rt::Env;
+use std::thread::Threads;
+use steal_sweep::OpenWay;
 use tc_io::{StdSink, StdSource};
 use tcount_top::{Status, run};
 
@@ -25,16 +27,17 @@ fn texts_of(alloc: Global, words: &[String]) -> Result<Vec<&str>, AllocError> {
     words.iter().map(|word| word.as_str()).collect(alloc)
 }
 
-/// Runs the command over the standard streams. Want of memory for the words comes before anything is read or written.
-fn status_of(rt: &HostRuntime) -> Result<Status, AllocError> {
+/// Runs the command over the standard streams, its workers as threads that nothing holds up. Want of memory for the words
+/// comes before anything is read or written.
+fn status_of<H: Threads + Sync>(rt: &HostRuntime, th: &H) -> Result<Status, AllocError> {
     let words = words_of(rt)?;
     let texts = texts_of(rt.alloc(), &words)?;
     let mut source = StdSource::new(rt.stdin());
     let mut sink = StdSink::new(rt.stdout());
-    Ok(run(rt.alloc(), &texts, &mut source, &mut sink))
+    Ok(run(th, rt.alloc(), &texts, &mut source, &mut sink, &OpenWay))
 }
 
 fn main(rt: HostRuntime) -> ExitCode {
-    let status = status_of(&rt).unwrap_or(Status::NoMemory);
+    let status = status_of(&rt, &rt).unwrap_or(Status::NoMemory);
     ExitCode::from(status.code())
 }

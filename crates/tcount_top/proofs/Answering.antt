@@ -1,86 +1,152 @@
 -- What writing an outcome makes of a run.
-use Rattle.std.proofs.Common.{◌≡◌, ℕ, ◌<◌, List, [], ◌++◌, length, arith, sym, ap, ◌∙◌, subst, inl, inr, None, Some, Bool, true, false}
-use Rattle.std.specs.Prelude.{codes}
+use Rattle.std.proofs.Common.{◌≡◌, ◌⊎◌, ℕ, ◌<◌, ◌≤◌, List, [], ◌++◌, length, arith, sym, ap, ◌∙◌, subst, refl, inl, inr, None, Some}
 use Rattle.std.specs.declared.option.Option.{Option}
 use Rattle.std.proofs.lemmas.List.{length-append, append-nil}
-use Rattle.tc_io.specs.Stream.{ReadsAll, TakesFront}
-use Rattle.tcount_top.specs.Words.{IsCommand, usage_line}
-use Rattle.tcount_top.specs.Out.{Out, IsDue, usage, too_long, refused, found, above}
-use Rattle.tcount_top.specs.Run.{Answers, Responds, TakesText, OnContent, IsOutcome}
+use Rattle.std.specs.Io.KnownBytes.{Consumes}
+use Rattle.tc_io.specs.Stream.{ReadsAll, TakesFront, TakesAtMost}
+use Rattle.tcount_top.specs.declared.command.Command.TheVariants.{Synth, Levels}
+use Rattle.tcount_top.specs.Words.{IsSynth, IsLevels, IsCommand, AskText}
+use Rattle.tcount_top.specs.Lines.{usage_line, too_long_line, levels_line}
+use Rattle.tcount_top.specs.Out.{Out, SynthOut, longest, usage, command, too_long, refused, past_limit, found, above}
+use Rattle.tcount_top.specs.Run.{Device, Answers, Responds, TakesText, OnContent, IsOutcome, IsSound, IsUntouched, Failed}
 use Rattle.tcount_top.specs.declared.top.Status.{Status}
-use Rattle.tcount_top.specs.declared.top.Status.TheVariants.{Refused, Usage, ReadFault, WriteFault, NoMemory}
+use Rattle.tcount_top.specs.declared.top.Status.TheVariants.{Found, Refused, Usage, ReadFault, WriteFault, NoMemory}
+use Rattle.tcount_top.proofs.Words.{one_command}
 
 -- a weaker claim on the content
 on_content : (left : Option (List ℕ)) (P Q : List ℕ → Type 0) → ((text : List ℕ) → P text → Q text) → OnContent left P → OnContent left Q
 on_content None P Q f h = (h.0, f h.0 h.1)
 on_content (Some text) P Q f h = f text h
 
--- what would make a test true, where the test is false
-pub refuted : (b : Bool) (P : Type 0) → (P → b ≡ true) → b ≡ false → P → ⊥
-refuted b P h e p = let t = h p in cc
-
--- an outcome that was handed to the sink
-pub responded : (words : List (List ℕ)) (left left' : Option (List ℕ)) (reads reads' : ℕ) (written written' : Option (List ℕ)) (writes writes' : ℕ) (wanted status : Status) (bytes : List ℕ)
-    → IsOutcome wanted → OnContent left (λ text. Out words text wanted bytes) → (IsCommand words → OnContent left (TakesText left left'))
-    → Responds written written' writes writes' bytes wanted status → Answers words left left' reads reads' written written' writes writes' status
-responded words left left' reads reads' written written' writes writes' wanted status bytes is out taken (inl h) = record {
-  no_memory = λ e. absurd (subst IsOutcome (sym h.0 ∙ e) is);
-  read_fault = λ e. absurd (subst IsOutcome (sym h.0 ∙ e) is);
-  write_fault = λ e. absurd (subst IsOutcome (sym h.0 ∙ e) is);
-  outcome = λ _. on_content left (λ text. Out words text wanted bytes) _ (λ text o. (bytes, subst (λ (s : Status). Out words text s bytes) (sym h.0) o, h.1)) out;
-  taken = λ command a b. taken command;
-}
-responded words left left' reads reads' written written' writes writes' wanted status bytes is out taken (inr h) = record {
-  no_memory = λ e. let f : WriteFault ≡ NoMemory = sym h.0 ∙ e in cc;
-  read_fault = λ e. let f : WriteFault ≡ ReadFault = sym h.0 ∙ e in cc;
-  write_fault = λ _. (h.1, on_content left (λ text. Out words text wanted bytes) _ (λ text o. (wanted, bytes, o, h.2)) out);
-  outcome = λ o. absurd (subst IsOutcome h.0 o);
-  taken = λ command a b. taken command;
-}
+-- a claim on each text
+on_any : (left : Option (List ℕ)) (P : List ℕ → Type 0) → ((text : List ℕ) → P text) → OnContent left P
+on_any None P f = ([], f [])
+on_any (Some text) P f = f text
 
 -- ---- what was read
+-- nothing
+pub takes_none : (old new : Option (List ℕ)) → new ≡ old → TakesAtMost 65537 old new
+takes_none old new e = record { count = 0; short = omega arith; front = record { taken = []; exact = refl; gone = subst (λ (left : Option (List ℕ)). Consumes old left []) (sym e) (none old) } }
+  where
+    none : (left : Option (List ℕ)) → Consumes left left []
+    none None = tt
+    none (Some text) = refl
+
+-- all
+pub takes_all : (old new : Option (List ℕ)) (bytes : List ℕ) → ReadsAll longest old new bytes → TakesAtMost 65537 old new
+takes_all old new bytes h = record { count = length bytes; short = omega (arith, h.short); front = record { taken = bytes; exact = refl; gone = h.gone } }
+
+-- 65,537 bytes
+pub takes_front : (old new : Option (List ℕ)) → TakesFront 65537 old new → TakesAtMost 65537 old new
+takes_front old new h = record { count = 65537; short = omega arith; front = h }
+
 -- the content, where it was read to its end as these bytes
-pub content_read : (left left' : Option (List ℕ)) (bytes : List ℕ) (Q : List ℕ → Type 0) → ReadsAll 65536 left left' bytes → Q bytes → OnContent left Q
-content_read None left' bytes Q h q = (bytes, q)
+content_read : (old new : Option (List ℕ)) (bytes : List ℕ) (Q : List ℕ → Type 0) → ReadsAll longest old new bytes → Q bytes → OnContent old Q
+content_read None new bytes Q h q = (bytes, q)
 content_read (Some text) None bytes Q h q = absurd h.gone
 content_read (Some text) (Some rest) bytes Q h q =
     let same : bytes ≡ text = sym (h.gone ∙ ap (λ (l : List ℕ). bytes ++ l) h.ended ∙ append-nil bytes) in subst Q same q
 
--- a text that was read to its end is taken whole
-pub text_taken : (left left' : Option (List ℕ)) (bytes : List ℕ) → ReadsAll 65536 left left' bytes → OnContent left (TakesText left left')
-text_taken left left' bytes h = content_read left left' bytes (TakesText left left') h (record { whole = λ _. h; front = λ long. absurd (omega (arith, h.short)) })
-
 -- the content, where 65,537 bytes of it were taken
-content_past : (left left' : Option (List ℕ)) (Q : List ℕ → Type 0) → TakesFront 65537 left left' → ((text : List ℕ) → 65536 < length text → Q text) → OnContent left Q
-content_past None left' Q h q = (h.taken, q h.taken (omega (arith, h.exact)))
+content_past : (old new : Option (List ℕ)) (Q : List ℕ → Type 0) → TakesFront 65537 old new → ((text : List ℕ) → longest < length text → Q text) → OnContent old Q
+content_past None new Q h q = (h.taken, q h.taken (omega (arith, h.exact)))
 content_past (Some text) None Q h q = absurd h.gone
-content_past (Some text) (Some rest) Q h q = q text (omega (arith, ap length h.gone, length-append h.taken rest, h.exact))
+content_past (Some text) (Some rest) Q h q = q text (omega (arith, ap (λ (l : List ℕ). length l) h.gone, length-append h.taken rest, h.exact))
 
--- a text of which 65,537 bytes were taken has that front taken
-pub past_taken : (left left' : Option (List ℕ)) → TakesFront 65537 left left' → OnContent left (TakesText left left')
-past_taken left left' h = content_past left left' (TakesText left left') h (λ text long. record { whole = λ short. absurd (omega arith); front = λ _. h })
+-- ---- want of memory and faults of reading
+-- want of memory, before anything was written
+pub no_memory : (words : List (List ℕ)) (source sink : Device) → IsCommand words → IsUntouched sink → TakesAtMost 65537 source.bytes_before source.bytes_after → Answers words source sink NoMemory
+no_memory words source sink is same most = record {
+  no_memory = λ _. (is, same);
+  read_fault = λ e. cc;
+  write_fault = λ e. cc;
+  outcome = λ o. absurd o;
+  taken = λ ask other _. absurd (other refl);
+  at_most = most;
+}
+
+-- a fault of reading
+pub read_fault : (words : List (List ℕ)) (source sink : Device) → AskText words → Failed source → IsUntouched sink → TakesAtMost 65537 source.bytes_before source.bytes_after → Answers words source sink ReadFault
+read_fault words source sink ask failed same most = record {
+  no_memory = λ e. cc;
+  read_fault = λ _. (ask, failed, same);
+  write_fault = λ e. cc;
+  outcome = λ o. absurd o;
+  taken = λ _ _ other. absurd (other refl);
+  at_most = most;
+}
+
+-- ---- outcomes that were handed to the sink
+-- what a run knows of its source where it answers with an outcome
+record Took (words : List (List ℕ)) (source : Device) : Type 0 where
+  pub sound : IsSound source
+  pub text : AskText words → OnContent source.bytes_before (TakesText source)
+  pub at_most : TakesAtMost 65537 source.bytes_before source.bytes_after
+
+responded : (words : List (List ℕ)) (source sink : Device) (wanted status : Status) (bytes : List ℕ) → IsOutcome wanted → OnContent source.bytes_before (λ text. Out words text wanted bytes) → Took words source
+    → Responds sink bytes wanted status → Answers words source sink status
+responded words source sink wanted status bytes is out took (inl h) = record {
+  no_memory = λ e. absurd (subst IsOutcome (sym h.0 ∙ e) is);
+  read_fault = λ e. absurd (subst IsOutcome (sym h.0 ∙ e) is);
+  write_fault = λ e. absurd (subst IsOutcome (sym h.0 ∙ e) is);
+  outcome = λ _. (took.sound, h.1, on_content source.bytes_before (λ text. Out words text wanted bytes) _ (λ text o. (bytes, subst (λ (s : Status). Out words text s bytes) (sym h.0) o, h.2)) out);
+  taken = λ ask a b. took.text ask;
+  at_most = took.at_most;
+}
+responded words source sink wanted status bytes is out took (inr h) = record {
+  no_memory = λ e. let f : WriteFault ≡ NoMemory = sym h.0 ∙ e in cc;
+  read_fault = λ e. let f : WriteFault ≡ ReadFault = sym h.0 ∙ e in cc;
+  write_fault = λ _. (h.1, on_content source.bytes_before (λ text. Out words text wanted bytes) _ (λ text o. (wanted, bytes, o, h.2)) out);
+  outcome = λ o. absurd (subst IsOutcome h.0 o);
+  taken = λ ask a b. took.text ask;
+  at_most = took.at_most;
+}
+
+-- no outcome of a text is want of memory or a fault
+synth_is_outcome : (bound : ℕ) (text : List ℕ) (status : Status) (bytes : List ℕ) → SynthOut bound text status bytes → IsOutcome status
+synth_is_outcome bound text status bytes (too_long l) = tt
+synth_is_outcome bound text status bytes (refused l number place r) = tt
+synth_is_outcome bound text status bytes (past_limit l c r o) = tt
+synth_is_outcome bound text status bytes (found c t k l w b s) = tt
+synth_is_outcome bound text status bytes (above c t k l o) = tt
+
+-- the outcome for a text that was read to its end
+pub read_answers : (words : List (List ℕ)) (source sink : Device) (bound workers : ℕ) → IsSynth words bound workers → (wanted status : Status) (text bytes : List ℕ) → IsSound source
+    → ReadsAll longest source.bytes_before source.bytes_after text → SynthOut bound text wanted bytes → Responds sink bytes wanted status → Answers words source sink status
+read_answers words source sink bound workers is wanted status text bytes sound all due response =
+    let ends = content_read source.bytes_before source.bytes_after text in
+    responded words source sink wanted status bytes (synth_is_outcome bound text wanted bytes due) (ends _ all (command (Synth bound workers) is due))
+    record { sound = sound; text = λ _. ends (TakesText source) all (record { whole = λ _. all; front = λ long. absurd (omega (arith, all.short, long)) }); at_most = takes_all _ _ text all }
+    response
 
 -- the outcome for a text of which 65,537 bytes were taken
-pub past_out : (words : List (List ℕ)) (left left' : Option (List ℕ)) → IsCommand words → TakesFront 65537 left left' → OnContent left (λ text. Out words text Refused (codes "refused 14\n"))
-past_out words left left' command h = content_past left left' _ h (λ text long. too_long command long)
+pub past_answers : (words : List (List ℕ)) (source sink : Device) (bound workers : ℕ) → IsSynth words bound workers → (status : Status) → IsSound source
+    → TakesFront 65537 source.bytes_before source.bytes_after → Responds sink too_long_line Refused status → Answers words source sink status
+past_answers words source sink bound workers is status sound front response =
+    let past = content_past source.bytes_before source.bytes_after in
+    responded words source sink Refused status too_long_line tt (past _ front (λ text long. command (Synth bound workers) is (too_long long)))
+    record { sound = sound; text = λ _. past (TakesText source) front (λ text long. record { whole = λ short. absurd (omega (arith, short, long)); front = λ _. front }); at_most = takes_front _ _ front }
+    response
 
--- the outcome for words that are no command
-pub usage_out : (words : List (List ℕ)) (left : Option (List ℕ)) → (IsCommand words → ⊥) → OnContent left (λ text. Out words text Usage usage_line)
-usage_out words None none = ([], usage none)
-usage_out words (Some text) none = usage none
+-- words that ask for no text
+unread : (words : List (List ℕ)) (source : Device) → (AskText words → ⊥) → IsUntouched source → IsSound source → Took words source
+unread words source unasked same sound = record { sound = sound; text = λ ask. absurd (unasked ask); at_most = takes_none _ _ same }
 
--- no outcome is want of memory or a fault
-due_is_outcome : (words : List (List ℕ)) (text : List ℕ) (status : Status) (bytes : List ℕ) → Out words text status bytes → IsOutcome status
-due_is_outcome words text status bytes (usage none) = tt
-due_is_outcome words text status bytes (too_long c l) = tt
-due_is_outcome words text status bytes (refused c l number place r) = tt
-due_is_outcome words text status bytes (found c l x d letters r shows) = tt
-due_is_outcome words text status bytes (above c l x r h) = tt
+-- words that are no command
+pub usage_answers : (words : List (List ℕ)) (source sink : Device) → (IsCommand words → ⊥) → (status : Status) → IsUntouched source → IsSound source → Responds sink usage_line Usage status → Answers words source sink status
+usage_answers words source sink none status same sound response =
+    responded words source sink Usage status usage_line tt (on_any source.bytes_before _ (λ text. usage none refl refl))
+    (unread words source (λ ask. none (Synth ask.0 ask.1, ask.2)) same sound) response
 
--- the outcome for a text that was read to its end, handed to the sink
-pub responded_due : (words : List (List ℕ)) (left left' : Option (List ℕ)) (reads reads' : ℕ) (written written' : Option (List ℕ)) (writes writes' : ℕ) (wanted status : Status) (text bytes : List ℕ)
-    → IsCommand words → ReadsAll 65536 left left' text → IsDue text wanted bytes → Responds written written' writes writes' bytes wanted status
-    → Answers words left left' reads reads' written written' writes writes' status
-responded_due words left left' reads reads' written written' writes writes' wanted status text bytes command all due response =
-    let out = due words command all.short in
-    responded words left left' reads reads' written written' writes writes' wanted status bytes (due_is_outcome words text wanted bytes out) (content_read left left' text _ all out) (λ _. text_taken left left' text all) response
+-- words that are `levels` ask for no text
+pub levels_ask_none : (words : List (List ℕ)) (qubits top workers : ℕ) → IsLevels words qubits top workers → AskText words → ⊥
+levels_ask_none words qubits top workers is ask = let same : Levels qubits top workers ≡ Synth ask.0 ask.1 = one_command words (Levels qubits top workers) (Synth ask.0 ask.1) is ask.2 in cc
+
+-- and their answer
+pub levels_answers : (words : List (List ℕ)) (source sink : Device) (qubits top workers : ℕ) → IsLevels words qubits top workers → (status : Status) → IsUntouched source → IsSound source → (status ≡ NoMemory → IsUntouched sink)
+    → ((status ≡ NoMemory) ⊎ Responds sink (levels_line qubits top) Found status) → Answers words source sink status
+levels_answers words source sink qubits top workers is status same sound untouched (inr response) =
+    responded words source sink Found status (levels_line qubits top) tt (on_any source.bytes_before _ (λ text. command (Levels qubits top workers) is (refl, refl)))
+    (unread words source (levels_ask_none words qubits top workers is) same sound) response
+levels_answers words source sink qubits top workers is status same sound untouched (inl e) =
+    subst (Answers words source sink) (sym e) (no_memory words source sink (Levels qubits top workers, is) (untouched e) (takes_none _ _ same))

@@ -1,3 +1,7 @@
-pub mod Limits
-pub mod Due
+pub mod Words
+pub mod Letters
+pub mod Printing
+pub mod Outcomes
 pub mod Answering
+pub mod Once
+pub mod OneOutcome

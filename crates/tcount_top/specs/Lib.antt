@@ -1,5 +1,7 @@
 pub mod Code
 pub mod Words
-pub mod Refusal
+pub mod Lines
+pub mod Printed
 pub mod Out
 pub mod Run
+pub mod Laws

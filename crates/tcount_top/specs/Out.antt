@@ -1,54 +1,69 @@
 -- What the program answers to words and a text.
-use Rattle.std.specs.Prelude.{ℕ, ◌<◌, ◌≤◌, List, length, codes}
+use Rattle.std.specs.Prelude.{◌≡◌, ℕ, ◌*◌, ◌<◌, ◌≤◌, List, length}
 use Rattle.tcount_top.specs.declared.top.Status.{Status}
 use Rattle.tcount_top.specs.declared.top.Status.TheVariants.{Found, Above, Refused, Usage}
+use Rattle.tcount_top.specs.declared.command.Command.{Command}
+use Rattle.tcount_top.specs.declared.command.Command.TheVariants.{Synth, Levels}
 use Rattle.qasm_reader.specs.Read.{Reads, Refused as IsRefused}
 use Rattle.circuit_writer.specs.Shown.{IsWord, shown}
+use Rattle.coset_label.specs.Words.{most_letters}
 use Rattle.tc_circuit.specs.Circuit.{Gates}
 use Rattle.tc_circuit.specs.Model.{IsCircuit, Same, IsLeastTCount, t_count_of}
 use Rattle.tc_circuit.specs.declared.circuit.Gate.{Gate}
-use Rattle.tcount_top.specs.Words.{IsCommand, usage_line}
-use Rattle.tcount_top.specs.Refusal.{refusal_line}
+use Rattle.tcount_top.specs.Words.{Spell, IsCommand}
+use Rattle.tcount_top.specs.Lines.{usage_line, too_long_line, refusal_line, limit_line, above_line, levels_line}
+use Rattle.tcount_top.specs.Printed.{IsRestThenWord, word_texts}
 
--- d is a circuit for c with the fewest T gates: it is the same as c up to phase, and no circuit on c's qubits that is the
--- same has fewer
-pub record IsOptimal (c : Gates) (d : List Gate) : Type 0 where
-  pub circuit : IsCircuit c.qubits d
-  pub same : Same c.qubits c.gates d
-  pub least : IsLeastTCount c.qubits c.gates (t_count_of d)
+-- the most bytes that a text may have
+abbrev pub longest : ℕ
+longest = 65536
 
--- each circuit on c's qubits that is the same as c has more T gates than the bound
-abbrev pub IsAbove : Gates → ℕ → Type 0
-IsAbove c bound = (d : List Gate) → IsCircuit c.qubits d → Same c.qubits c.gates d → bound < t_count_of d
+-- the greatest bound on n qubits, 18, 12 or 8: a word of two halves that levels hold
+abbrev pub most_bound : ℕ → ℕ
+most_bound n = 2 * most_letters n
 
--- the bytes are the print of a circuit for c with the fewest T gates, at most the bound, behind its count and its word; and
--- they themselves read as that circuit
-pub record ShowsOptimal (c : Gates) (bound : ℕ) (d : List Gate) (letters : List (List ℕ)) : Type 0 where
-  pub optimal : IsOptimal c d
-  pub within : t_count_of d ≤ bound
-  pub word : IsWord c.qubits (t_count_of d) letters
-  pub reads : Reads (shown c.qubits d letters) (record { qubits = c.qubits; gates = d })
+-- the bytes are the print of a circuit like c: its matrix is c's up to global phase, and it has t T gates. The letters are
+-- the t letters of c's least word, the gates are the rest and the word's blocks, and the bytes themselves read as the circuit
+pub record ShowsLike (c : Gates) (t : ℕ) (bytes : List ℕ) : Type 0 where
+  pub gates : List Gate
+  pub word : List ℕ
+  pub circuit : IsCircuit c.qubits gates
+  pub same : Same c.qubits c.gates gates
+  pub count : t_count_of gates ≡ t
+  pub letters : IsWord c.qubits t (word_texts c.qubits word)
+  pub rest : IsRestThenWord c word gates
+  pub shows : bytes ≡ shown c.qubits gates (word_texts c.qubits word)
+  pub reads : Reads bytes (record { qubits = c.qubits; gates = gates })
 
--- the outcomes for words and a text: status and bytes
-pub data Out (words : List (List ℕ)) (text : List ℕ) : Status → List ℕ → Type 0 where
-  -- the words are no command, whatever the text is
-  usage : (IsCommand words → ⊥) → Out words text Usage usage_line
+-- the text isn't too long and reads as the circuit, and the bound is within the limit of its qubits
+pub record IsTaken (text : List ℕ) (c : Gates) (bound : ℕ) : Type 0 where
+  pub short : length text ≤ longest
+  pub reads : Reads text c
+  pub low : bound ≤ most_bound c.qubits
+
+-- the outcomes of `synth` with a bound for a text: status and bytes
+pub data SynthOut (bound : ℕ) (text : List ℕ) : Status → List ℕ → Type 0 where
   -- the text has more than 65,536 bytes
-  too_long : IsCommand words → 65536 < length text → Out words text Refused (codes "refused 14\n")
+  too_long : longest < length text → SynthOut bound text Refused too_long_line
   -- the text is refused, for the reason of that number at that place
-  refused : IsCommand words → length text ≤ 65536 → (number place : ℕ) → IsRefused text number place
-      → Out words text Refused (refusal_line number place)
-  -- the least T-count of the text's circuit is at most the bound: a circuit that has it
-  found : IsCommand words → length text ≤ 65536 → (c : Gates) (d : List Gate) (letters : List (List ℕ)) → Reads text c
-      → ShowsOptimal c 0 d letters → Out words text Found (shown c.qubits d letters)
-  -- the least T-count of the text's circuit is above the bound
-  above : IsCommand words → length text ≤ 65536 → (c : Gates) → Reads text c → IsAbove c 0
-      → Out words text Above (codes "above 0\n")
+  refused : length text ≤ longest → (number place : ℕ) → IsRefused text number place → SynthOut bound text Refused (refusal_line number place)
+  -- the text reads as a circuit, and the bound is above the limit of its qubits
+  past_limit : length text ≤ longest → (c : Gates) → Reads text c → most_bound c.qubits < bound
+      → SynthOut bound text Refused (limit_line bound (most_bound c.qubits))
+  -- t is the least T-count of the text's circuit, and is at most the bound: a circuit like it with t T gates
+  found : (c : Gates) → IsTaken text c bound → (t : ℕ) → IsLeastTCount c.qubits c.gates t → t ≤ bound → (bytes : List ℕ) → ShowsLike c t bytes
+      → SynthOut bound text Found bytes
+  -- t is the least T-count of the text's circuit, and is greater than the bound
+  above : (c : Gates) → IsTaken text c bound → (t : ℕ) → IsLeastTCount c.qubits c.gates t → bound < t → SynthOut bound text Above (above_line bound)
 
--- the outcome for a text of at most 65,536 bytes, where the words are a command
-abbrev pub IsDue : List ℕ → Status → List ℕ → Type 0
-IsDue text status bytes = (words : List (List ℕ)) → IsCommand words → length text ≤ 65536 → Out words text status bytes
+-- the outcomes of a command for a text; `levels` doesn't look at it
+abbrev pub CommandOut : Command → List ℕ → Status → List ℕ → Type 0
+CommandOut (Synth bound workers) text status bytes = SynthOut bound text status bytes
+CommandOut (Levels qubits top workers) text status bytes = (status ≡ Found) × (bytes ≡ levels_line qubits top)
 
--- the outcome for each such text that reads as the circuit
-abbrev pub IsDueFor : Gates → Status → List ℕ → Type 0
-IsDueFor c status bytes = (text : List ℕ) → Reads text c → IsDue text status bytes
+-- the outcomes for words and a text
+pub data Out (words : List (List ℕ)) (text : List ℕ) (status : Status) (bytes : List ℕ) : Type 0 where
+  -- the words are no command, whatever the text is
+  usage : (IsCommand words → ⊥) → status ≡ Usage → bytes ≡ usage_line → Out words text status bytes
+  -- they are a command
+  command : (command : Command) → Spell words command → CommandOut command text status bytes → Out words text status bytes

@@ -1,15 +1,45 @@
--- The words of the command line, behind the program's name.
-use Rattle.std.specs.Prelude.{◌≡◌, ℕ, List, [], ◌∷◌, map, codes}
+-- The words of the command line, behind the program's name, and the command that they are.
+use Rattle.std.specs.Prelude.{◌≡◌, ℕ, ◌<◌, ◌≤◌, ◌^◌, List, [], ◌∷◌, map, codes, decimal}
+use Rattle.coset_label.specs.Words.{most_letters}
+use Rattle.tcount_top.specs.declared.command.Command.{Command}
+use Rattle.tcount_top.specs.declared.command.Command.TheVariants.{Synth, Levels}
 use denote.Ref.{Bor}
 
 -- the words' bytes
 abbrev pub texts_of : List (Bor (List ℕ)) → List (List ℕ)
 texts_of words = map (λ word. word.now) words
 
--- the words are a command: so far `synth 0 1`, of the bound 0 and one worker
-unfoldable pub IsCommand : List (List ℕ) → Type 0
-IsCommand words = words ≡ codes "synth" ∷ codes "0" ∷ codes "1" ∷ []
+-- a number as a word: at most ten decimal digits, with no sign and no leading zero
+abbrev pub IsNumber : List ℕ → ℕ → Type 0
+IsNumber word number = (word ≡ decimal number) × (number < 10 ^ 10)
 
--- what is written where they are none
-unfoldable pub usage_line : List ℕ
-usage_line = codes "usage: synth M W | check | levels N K W | bench N T SEED M W\n"
+-- 1 to 8 workers
+abbrev pub AreWorkers : ℕ → Type 0
+AreWorkers workers = (1 ≤ workers) × (workers ≤ 8)
+
+-- `synth M W`: any number as the bound, and workers
+pub record IsSynth (words : List (List ℕ)) (bound workers : ℕ) : Type 0 where
+  pub spelled : words ≡ codes "synth" ∷ decimal bound ∷ decimal workers ∷ []
+  pub number : bound < 10 ^ 10
+  pub crew : AreWorkers workers
+
+-- `levels N K W`: 1 to 3 qubits, the last level, which is 9, 6 or 4 on so many qubits at most, and workers
+pub record IsLevels (words : List (List ℕ)) (qubits top workers : ℕ) : Type 0 where
+  pub spelled : words ≡ codes "levels" ∷ decimal qubits ∷ decimal top ∷ decimal workers ∷ []
+  pub some : 1 ≤ qubits
+  pub few : qubits ≤ 3
+  pub low : top ≤ most_letters qubits
+  pub crew : AreWorkers workers
+
+-- the words are this command
+abbrev pub Spell : List (List ℕ) → Command → Type 0
+Spell words (Synth bound workers) = IsSynth words bound workers
+Spell words (Levels qubits top workers) = IsLevels words qubits top workers
+
+-- the words are a command
+abbrev pub IsCommand : List (List ℕ) → Type 0
+IsCommand words = (command : Command) × Spell words command
+
+-- the words are a command that reads a text
+abbrev pub AskText : List (List ℕ) → Type 0
+AskText words = (bound workers : ℕ) × IsSynth words bound workers

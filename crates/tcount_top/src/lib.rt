@@ -1,13 +1,21 @@
-//! `tcount` over any source and sink: [`run`] reads a program text, finds the least T-count of its circuit, and writes a
-//! circuit that has it, or that each has more T gates than a bound. Its contract is in `specs/Out` (which status and
-//! bytes are the outcome for which words and text) and `specs/Run` (how a run hands them over).
+//! `tcount` over any source and sink: [`run`] does what the words of the command line ask for.
 //!
-//! So far the one command is `synth 0 1`, for every text of the profile.
+//! `synth` reads a program text, finds the least T-count of its circuit, and writes a circuit that has it, or that the least
+//! T-count is greater than a bound. `levels` writes how many cosets have each T-count. The contract of [`run`] is in
+//! `specs/Words` (which words are which command), `specs/Out` (which status and bytes are the outcome for which words and
+//! text), `specs/Printed` (which of the circuits with the least T-count is written) and `specs/Run` (how a run hands the
+//! bytes over).
 #![tactic(auto)]
 
-mod answer;
+mod command;
+pub mod laws;
+mod lines;
+mod print;
+mod sizes;
+mod synth;
 #[cfg(test)]
 mod tests;
 pub mod top;
 
+pub use print::printed;
 pub use top::{Status, run};

@@ -1,152 +1,212 @@
 use super::*;
+
+mod gates;
+mod made;
+
+use gates::Meeting;
 use std::alloc::{AllocError, Global};
 use std::test::Fail;
-use tc_io::{CleanSink, CleanSource, MemSink, MemSource, StdSink, StdSource};
+use std::thread::Threads;
+use steal_sweep::{OpenWay, Turnstile};
+use tc_io::{CleanSource, MemSink, MemSource, StdSink, StdSource};
 
-const WORDS: [&str; 3] = ["synth", "0", "1"];
+// The controlled S gate: a T gate on each of two qubits, and an inverse one behind a controlled not.
+const CONTROLLED_S: &str = "OPENQASM 2.0;\nqreg q[2];\nt q[0];\nt q[1];\ncx q[0],q[1];\ntdg q[1];\ncx q[0],q[1];\n";
+
+// What is printed for it.
+const CONTROLLED_S_PRINTED: &str = "// t-count 3\n// word IZ ZI ZZ\nOPENQASM 2.0;\ninclude \"qelib1.inc\";\nqreg q[2];\nh q[1];\ns q[1];\nh q[1];\ns q[1];\ns q[0];\ns q[0];\ncx q[0],q[1];\nh q[1];\ns q[0];\ncx q[0],q[1];\nt q[1];\ncx q[0],q[1];\nt q[1];\nt q[0];\n";
+
+// The status of a run over a text, and the bytes that it writes.
+fn answer<H: Threads + Sync, G: Turnstile + Sync>(
+    th: &H,
+    alloc: Global,
+    words: &[&str],
+    text: &[u8],
+    gate: &G,
+) -> Result<(Status, Vec<u8>), AllocError> {
+    let mut source = CleanSource::new(Vec::from_slice(alloc, text)?);
+    let mut sink = MemSink::new(alloc, 4096, 100, Vec::new(alloc))?;
+    let status = run(th, alloc, words, &mut source, &mut sink, gate);
+    Ok((status, Vec::from_slice(alloc, sink.bytes())?))
+}
 
 // Words that are no command.
 #[test]
 fn usage(rt: HostRuntime) -> Result<(), Fail> {
-    let alloc = rt.alloc();
     let line = "usage: synth M W | check | levels N K W | bench N T SEED M W\n";
-    let rows: [&[&str]; 5] = [
+    let rows: [&[&str]; 19] = [
         &["synth", "5", "9"],
+        &["synth", "5", "0"],
         &["synth", "0", "1", "1"],
         &["synth", "0"],
         &["-synth", "0", "1"],
+        &["synth", "00", "1"],
+        &["synth", "01", "1"],
+        &["synth", "+1", "1"],
+        &["synth", "-1", "1"],
+        &["synth", "", "1"],
+        &["synth", "1x", "1"],
+        &["synth", "10000000000", "1"],
+        &["levels", "0", "1", "1"],
+        &["levels", "4", "1", "1"],
+        &["levels", "1", "10", "1"],
+        &["levels", "2", "7", "1"],
+        &["levels", "3", "5", "1"],
+        &["levels", "3", "1", "9"],
         &[],
     ];
     for words in rows {
-        let mut sink = MemSink::new(alloc, 200, 7, Vec::new(alloc))?;
-        let mut source = CleanSource::new(Vec::new(alloc));
-        let status = run(alloc, words, &mut source, &mut sink);
+        let (status, bytes) = answer(&rt, rt.alloc(), words, b"OPENQASM 2.0;\n", &OpenWay)?;
         assert_eq!(rt; status, Status::Usage);
-        assert!(rt; sink.bytes() == line.as_bytes());
+        assert!(rt; bytes.as_slice() == line.as_bytes());
     }
     Ok(())
 }
 
-// A text that comes byte by byte, and the status and the bytes that are the outcome.
+// A bound, a text, and the status and the bytes that are the outcome.
 #[test]
 fn outcomes(rt: HostRuntime) -> Result<(), Fail> {
-    let alloc = rt.alloc();
     let rows = [
         (
+            "5",
             "OPENQASM 2.0;\nqreg q[1];\nt q[0];\nt q[0];\n",
             Status::Found,
             "// t-count 0\n// word\nOPENQASM 2.0;\ninclude \"qelib1.inc\";\nqreg q[1];\ns q[0];\n",
         ),
         (
+            "0",
             "OPENQASM 2.0;\nqreg q[1];\nt q[0];\n",
             Status::Above,
             "above 0\n",
         ),
         (
+            "0",
             "OPENQASM 2.0;\nqreg q[1];\n",
             Status::Found,
             "// t-count 0\n// word\nOPENQASM 2.0;\ninclude \"qelib1.inc\";\nqreg q[1];\n",
         ),
+        (
+            "18",
+            "OPENQASM 2.0;\nqreg q[1];\nt q[0];\nh q[0];\nt q[0];\nh q[0];\nt q[0];\n",
+            Status::Found,
+            "// t-count 3\n// word Z X Z\nOPENQASM 2.0;\ninclude \"qelib1.inc\";\nqreg q[1];\nt q[0];\nh q[0];\nt q[0];\nh q[0];\nt q[0];\n",
+        ),
+        (
+            "2",
+            "OPENQASM 2.0;\nqreg q[1];\nt q[0];\nh q[0];\nt q[0];\nh q[0];\nt q[0];\n",
+            Status::Above,
+            "above 2\n",
+        ),
         // The phase between h s h s h s and nothing is ω.
         (
+            "0",
             "OPENQASM 2.0;\nqreg q[1];\nh q[0];\ns q[0];\nh q[0];\ns q[0];\nh q[0];\ns q[0];\n",
             Status::Found,
             "// t-count 0\n// word\nOPENQASM 2.0;\ninclude \"qelib1.inc\";\nqreg q[1];\n",
         ),
         (
-            "OPENQASM 2.0;\nqreg q[1];\ntdg q[0];\nsdg q[0];\nt q[0];\n",
-            Status::Found,
-            "// t-count 0\n// word\nOPENQASM 2.0;\ninclude \"qelib1.inc\";\nqreg q[1];\ns q[0];\ns q[0];\ns q[0];\n",
-        ),
-        (
-            "OPENQASM 2.0;\nqreg q[1];\nt q[0];\nh q[0];\nt q[0];\nh q[0];\n",
-            Status::Above,
-            "above 0\n",
-        ),
-        // A file of an exporter: an include, a comment, lines ended by carriage return and line feed, a gate on a register.
-        (
-            "OPENQASM 2.0;\r\ninclude \"qelib1.inc\";\r\n// one qubit\r\nqreg q[1];\r\ncreg c[1];\r\nx q;\r\n",
-            Status::Found,
-            "// t-count 0\n// word\nOPENQASM 2.0;\ninclude \"qelib1.inc\";\nqreg q[1];\nh q[0];\ns q[0];\ns q[0];\nh q[0];\n",
-        ),
-        (
+            "0",
             "OPENQASM 2.0;\nqreg q[3];\nccx q[0],q[1],q[2];\nccx q[0],q[1],q[2];\n",
             Status::Found,
             "// t-count 0\n// word\nOPENQASM 2.0;\ninclude \"qelib1.inc\";\nqreg q[3];\n",
         ),
         (
-            "OPENQASM 2.0;\nqreg q[3];\nccx q[0],q[1],q[2];\n",
-            Status::Above,
-            "above 0\n",
+            "1",
+            "OPENQASM 2.0;\nqreg q[2];\nt q[0];\ncx q[0],q[1];\ntdg q[0];\n",
+            Status::Found,
+            "// t-count 0\n// word\nOPENQASM 2.0;\ninclude \"qelib1.inc\";\nqreg q[2];\ncx q[0],q[1];\n",
         ),
         (
+            "0",
             "OPENQASM 2.0;\nqreg q[3];\nh q;\n",
             Status::Found,
             "// t-count 0\n// word\nOPENQASM 2.0;\ninclude \"qelib1.inc\";\nqreg q[3];\nh q[2];\nh q[1];\nh q[0];\n",
         ),
         (
+            "0",
             "OPENQASM 2.0;\nqreg a[2];\nqreg b[1];\n",
             Status::Found,
             "// t-count 0\n// word\nOPENQASM 2.0;\ninclude \"qelib1.inc\";\nqreg q[3];\n",
         ),
+        // A file of an exporter: an include, a comment, lines ended by carriage return and line feed, a barrier.
         (
-            "OPENQASM 2.0;\nqreg q[2];\nt q[0];\ncx q[0],q[1];\ntdg q[0];\n",
+            "12",
+            "OPENQASM 2.0;\r\ninclude \"qelib1.inc\";\r\n// two qubits\r\nqreg q[2];\r\ncreg c[2];\r\nh q[0];\r\ncx q[0],q[1];\r\nbarrier q[0],q[1];\r\nt q[1];\r\n",
             Status::Found,
-            "// t-count 0\n// word\nOPENQASM 2.0;\ninclude \"qelib1.inc\";\nqreg q[2];\ncx q[0],q[1];\n",
+            "// t-count 1\n// word ZI\nOPENQASM 2.0;\ninclude \"qelib1.inc\";\nqreg q[2];\nh q[0];\ncx q[0],q[1];\nh q[0];\nh q[0];\nt q[1];\n",
         ),
-        ("", Status::Refused, "refused 1 at 0\n"),
-        ("OPENQASM 2.0;\n", Status::Refused, "refused 8 at 14\n"),
+    ];
+    for (bound, text, status, bytes) in rows {
+        let (answered, written) = answer(&rt, rt.alloc(), &["synth", bound, "2"], text.as_bytes(), &OpenWay)?;
+        assert_eq!(rt; answered, status, "{bytes:?}");
+        assert!(rt; written.as_slice() == bytes.as_bytes(), "{bytes:?}");
+    }
+    Ok(())
+}
+
+// Bounds, and texts that are refused: at the reading, and behind it where the bound is above the limit.
+#[test]
+fn refusals(rt: HostRuntime) -> Result<(), Fail> {
+    let rows = [
+        ("0", "", "refused 1 at 0\n"),
+        ("0", "OPENQASM 2.0;\n", "refused 8 at 14\n"),
+        ("0", "OPENQASM 2.0;\nqreg q[4];\n", "refused 8 at 14\n"),
         (
-            "OPENQASM 2.0;\nqreg q[4];\n",
-            Status::Refused,
-            "refused 8 at 14\n",
-        ),
-        (
+            "0",
             "OPENQASM 2.0;\nqreg q[2];\ncx q[0],q[0];\n",
-            Status::Refused,
             "refused 7 at 25\n",
         ),
         (
+            "0",
             "OPENQASM 2.0;\nqreg q[1];\nh q[0]",
-            Status::Refused,
             "refused 3 at 25\n",
         ),
         (
+            "0",
             "OPENQASM 2.0;\nqreg q[1];\nfoo q[0];\n",
-            Status::Refused,
             "refused 4 at 25\n",
         ),
         (
+            "0",
             "OPENQASM 2.0;\nqreg q[1];\nh r[0];\n",
-            Status::Refused,
             "refused 5 at 25\n",
         ),
         (
+            "0",
             "OPENQASM 2.0;\nqreg q[1];\nh q[1];\n",
-            Status::Refused,
             "refused 6 at 25\n",
         ),
         (
+            "0",
             "OPENQASM 2.0;\nqreg q[1];\nqreg q[1];\n",
-            Status::Refused,
             "refused 12 at 25\n",
         ),
+        ("0", "OPENQASM 2.0;\nqreg q[1];\n#\n", "refused 2 at 25\n"),
         (
-            "OPENQASM 2.0;\nqreg q[1];\n#\n",
-            Status::Refused,
-            "refused 2 at 25\n",
+            "9",
+            "OPENQASM 2.0;\nqreg q[3];\n",
+            "refused 13 bound 9 limit 8\n",
+        ),
+        (
+            "13",
+            "OPENQASM 2.0;\nqreg q[2];\n",
+            "refused 13 bound 13 limit 12\n",
+        ),
+        (
+            "9999999999",
+            "OPENQASM 2.0;\nqreg q[1];\n",
+            "refused 13 bound 9999999999 limit 18\n",
+        ),
+        (
+            "9999999999",
+            "OPENQASM 2.0;\nqreg q[4];\n",
+            "refused 8 at 14\n",
         ),
     ];
-    for (text, status, bytes) in rows {
-        let text = Vec::from_slice(alloc, text.as_bytes())?;
-        let mut source = MemSource::new(text, 1, Vec::new(alloc));
-        let mut sink = MemSink::new(alloc, 200, 7, Vec::new(alloc))?;
-        assert_eq!(rt;
-            run(alloc, &WORDS, &mut source, &mut sink),
-            status,
-            "{bytes:?}"
-        );
-        assert!(rt; sink.bytes() == bytes.as_bytes(), "{bytes:?}");
+    for (bound, text, bytes) in rows {
+        let (status, written) = answer(&rt, rt.alloc(), &["synth", bound, "1"], text.as_bytes(), &OpenWay)?;
+        assert_eq!(rt; status, Status::Refused, "{bytes:?}");
+        assert!(rt; written.as_slice() == bytes.as_bytes(), "{bytes:?}");
     }
     Ok(())
 }
@@ -163,7 +223,6 @@ fn repeated(alloc: Global, front: &str, line: &str, times: usize) -> Result<Vec<
 // Long texts, and texts at the limits: a front, a line and how often it stands, and the outcome.
 #[test]
 fn limits(rt: HostRuntime) -> Result<(), Fail> {
-    let alloc = rt.alloc();
     let one = "OPENQASM 2.0;\nqreg q[1];\n";
     let nothing = "// t-count 0\n// word\nOPENQASM 2.0;\ninclude \"qelib1.inc\";\nqreg q[1];\n";
     let h = "// t-count 0\n// word\nOPENQASM 2.0;\ninclude \"qelib1.inc\";\nqreg q[1];\nh q[0];\n";
@@ -174,10 +233,6 @@ fn limits(rt: HostRuntime) -> Result<(), Fail> {
         (one, "t q[0];\n", 45, Status::Refused, "refused 9 at 377\n"),
         (one, "t q[0];\nh q[0];\n", 44, Status::Above, "above 0\n"),
         (one, "h q[0];\n", 120, Status::Found, nothing),
-        (one, "h q[0];\n", 121, Status::Found, h),
-        // h s has order 3 up to phase.
-        (one, "h q[0];\ns q[0];\n", 120, Status::Found, nothing),
-        (one, "z q[0];\n", 4095, Status::Found, z),
         (one, "h q[0];\n", 4095, Status::Found, h),
         (
             one,
@@ -190,30 +245,81 @@ fn limits(rt: HostRuntime) -> Result<(), Fail> {
         ("", " ", 65537, Status::Refused, "refused 14\n"),
     ];
     for (front, line, times, status, bytes) in rows {
-        let mut source = CleanSource::new(repeated(alloc, front, line, times)?);
-        let mut sink = MemSink::new(alloc, 200, 200, Vec::new(alloc))?;
-        assert_eq!(rt;
-            run(alloc, &WORDS, &mut source, &mut sink),
-            status,
-            "{line:?} {times}"
-        );
-        assert!(rt; sink.bytes() == bytes.as_bytes(), "{line:?} {times}");
+        let text = repeated(rt.alloc(), front, line, times)?;
+        let (answered, written) = answer(&rt, rt.alloc(), &["synth", "0", "1"], &text, &OpenWay)?;
+        assert_eq!(rt; answered, status, "{line:?} {times}");
+        assert!(rt; written.as_slice() == bytes.as_bytes(), "{line:?} {times}");
     }
     Ok(())
 }
 
-// What was written is read again, and comes out the same.
+// The bytes don't depend on the number of workers.
 #[test]
-fn stable(rt: HostRuntime) -> Result<(), Fail> {
-    let alloc = rt.alloc();
-    let text = b"OPENQASM 2.0;\nqreg q[2];\nh q[0];\ncx q[0],q[1];\ns q[1];\nh q[1];\nz q[0];\n";
-    let mut first = MemSink::new(alloc, 400, 400, Vec::new(alloc))?;
-    let mut source = CleanSource::new(Vec::from_slice(alloc, text.as_slice())?);
-    assert_eq!(rt; run(alloc, &WORDS, &mut source, &mut first), Status::Found);
-    let mut second = MemSink::new(alloc, 400, 400, Vec::new(alloc))?;
-    let mut again = CleanSource::new(Vec::from_slice(alloc, first.bytes())?);
-    assert_eq!(rt; run(alloc, &WORDS, &mut again, &mut second), Status::Found);
-    assert!(rt; first.bytes() == second.bytes());
+fn any_workers(rt: HostRuntime) -> Result<(), Fail> {
+    for workers in ["1", "2", "3", "8"] {
+        let words = ["synth", "12", workers];
+        let (status, bytes) = answer(&rt, rt.alloc(), &words, CONTROLLED_S.as_bytes(), &OpenWay)?;
+        assert_eq!(rt; status, Status::Found);
+        assert!(rt; bytes.as_slice() == CONTROLLED_S_PRINTED.as_bytes(), "{workers} workers");
+    }
+    Ok(())
+}
+
+// The sizes of levels.
+#[test]
+fn sizes_of_levels(rt: HostRuntime) -> Result<(), Fail> {
+    let rows = [
+        ("1", "9", "1 3 6 12 24 48 96 192 384 768\n"),
+        ("2", "2", "1 15 165\n"),
+        ("3", "2", "1 63 2961\n"),
+        ("3", "0", "1\n"),
+    ];
+    for (qubits, top, line) in rows {
+        for workers in ["1", "2", "3", "8"] {
+            let (status, bytes) = answer(&rt, rt.alloc(), &["levels", qubits, top, workers], b"", &OpenWay)?;
+            assert_eq!(rt; status, Status::Found);
+            assert!(rt; bytes.as_slice() == line.as_bytes(), "{qubits} qubits, {workers} workers");
+        }
+    }
+    Ok(())
+}
+
+#[test]
+fn two_workers_meet(rt: HostRuntime) -> Result<(), Fail> {
+    let gate = Meeting::new();
+    let (status, bytes) = answer(&rt, rt.alloc(), &["levels", "2", "2", "2"], b"", &gate)?;
+    assert_eq!(rt; status, Status::Found);
+    assert!(rt; bytes.as_slice() == b"1 15 165\n".as_slice());
+    assert!(rt; gate.was_seen());
+    Ok(())
+}
+
+// The level and the totals 0 to 2 are one block each, and the 225 positions of the total 3 are four.
+#[test]
+fn two_searchers_meet(rt: HostRuntime) -> Result<(), Fail> {
+    let gate = Meeting::new();
+    let (status, bytes) = answer(&rt, rt.alloc(), &["synth", "3", "2"], CONTROLLED_S.as_bytes(), &gate)?;
+    assert_eq!(rt; status, Status::Found);
+    assert!(rt; bytes.as_slice() == CONTROLLED_S_PRINTED.as_bytes());
+    assert!(rt; gate.was_seen());
+    assert_eq!(rt; gate.passes(), 8);
+    Ok(())
+}
+
+// A circuit by a seed has at most as many T gates as are in its text, has one print whatever the number of workers, and the
+// print is its own.
+#[test]
+fn made_circuits(rt: HostRuntime) -> Result<(), Fail> {
+    for seed in 0..60u64 {
+        let (text, bound) = made::circuit(rt.alloc(), seed)?;
+        let words = ["synth", bound, "1"];
+        let (status, bytes) = answer(&rt, rt.alloc(), &words, &text, &OpenWay)?;
+        assert_eq!(rt; status, Status::Found, "seed {seed}");
+        for workers in ["1", "2", "3", "8"] {
+            let (_, again) = answer(&rt, rt.alloc(), &["synth", bound, workers], &bytes, &OpenWay)?;
+            assert!(rt; again.as_slice() == bytes.as_slice(), "seed {seed}, {workers} workers");
+        }
+    }
     Ok(())
 }
 
@@ -231,7 +337,8 @@ fn faults(rt: HostRuntime) -> Result<(), Fail> {
         let failing_writes = Vec::from_slice(alloc, failing_writes)?;
         let mut source = MemSource::new(Vec::from_slice(alloc, text)?, 10, failing_reads);
         let mut sink = MemSink::new(alloc, 200, 10, failing_writes)?;
-        assert_eq!(rt; run(alloc, &WORDS, &mut source, &mut sink), status);
+        let words = ["synth", "5", "1"];
+        assert_eq!(rt; run(&rt, alloc, &words, &mut source, &mut sink, &OpenWay), status);
         assert!(rt; sink.bytes() == bytes);
     }
     Ok(())
@@ -244,7 +351,8 @@ fn over_streams(rt: HostRuntime) -> Result<(), Fail> {
     let mut held = Vec::new(rt.alloc());
     let mut source = StdSource::new(text);
     let mut sink = StdSink::new(&mut held);
-    let status = run(rt.alloc(), &WORDS, &mut source, &mut sink);
+    let words = ["synth", "0", "1"];
+    let status = run(&rt, rt.alloc(), &words, &mut source, &mut sink, &OpenWay);
     assert_eq!(rt; status, Status::Above);
     drop(sink);
     assert!(rt; held.as_slice() == b"above 0\n".as_slice());

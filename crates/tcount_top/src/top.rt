@@ -1,12 +1,17 @@
 //! The top call.
-ghost use Rattle.std.specs.Prelude.{◌≡◌, ◌⊎◌, ◌↔◌, ◌≤◌, ◌++◌, List, length, IsTrue, codes};
-ghost use Rattle.std.specs.Io.KnownBytes.{Appends};
-ghost use Rattle.tc_io.specs.Stream.{AppendsPart};
-ghost use Rattle.tcount_top.specs.Words.{texts_of, IsCommand, usage_line};
+ghost use Rattle.std.specs.Prelude.{◌≡◌, ◌⊎◌, ◌≤◌, ℕ, List};
+ghost use Rattle.tcount_top.specs.Words.{texts_of, IsSynth, IsCommand, AskText};
+ghost use Rattle.tcount_top.specs.Lines.{usage_line, levels_line};
 ghost use Rattle.tcount_top.specs.Run.{Answers, Responds};
+ghost use Rattle.coset_label.specs.Words.{most_letters};
 
-use crate::answer::answer;
+use crate::command::Command;
+use crate::lines::{TOO_LONG, USAGE};
+use crate::sizes::sizes;
+use crate::synth::synth;
 use std::alloc::{AllocError, Global};
+use std::thread::Threads;
+use steal_sweep::Turnstile;
 use tc_io::{Failed, ReadAllFault, Sink, Source, read_all, write_all};
 
 /// How a run ends.
@@ -50,32 +55,14 @@ impl Status {
 /// The most bytes that a text may have.
 const LONGEST: usize = 65536;
 
-/// What is written where the words are no command.
-const USAGE: &[u8] = b"usage: synth M W | check | levels N K W | bench N T SEED M W\n";
-
-// Whether three words are those of the command.
-fn are_synth(command: &str, bound: &str, workers: &str) -> bool
-    ensures { IsTrue result
-        ↔ ((command.now ≡ codes "synth") × (bound.now ≡ codes "0") × (workers.now ≡ codes "1")) }
-{
-    command == "synth" && bound == "0" && workers == "1"
-}
-
-// Whether the words are a command.
-#[tactic(auto, unfolding(crate::specs::Words::IsCommand))]
-fn is_command(words: &[&str]) -> bool
-    ensures { IsTrue result ↔ IsCommand (texts_of words.now) }
-{
-    match words {
-        [command, bound, workers] => are_synth(command, bound, workers),
-        _ => false,
-    }
-}
-
-// Writes an outcome's bytes, and answers its status where the sink took them.
+/// Writes an outcome's bytes, and answers its status where the sink took them.
 fn respond<K: Sink>(sink: &mut K, bytes: &[u8], status: Status) -> Status
-    ensures responds { Responds (K.written sink.old) (K.written sink.new) (K.faults sink.old) (K.faults sink.new)
-        bytes.now status result }
+    ensures responds { Responds (record {
+        bytes_before = K.written sink.old;
+        bytes_after = K.written sink.new;
+        faults_before = K.faults sink.old;
+        faults_after = K.faults sink.new;
+    }) bytes.now status result }
     ensures later { K.faults sink.old ≤ K.faults sink.new }
 {
     match write_all(sink, bytes) {
@@ -84,43 +71,146 @@ fn respond<K: Sink>(sink: &mut K, bytes: &[u8], status: Status) -> Status
     }
 }
 
+/// Reads a text, and writes what `synth` answers to it.
+fn run_synth<H: Threads + Sync, S: Source, K: Sink, G: Turnstile + Sync>(
+    th: &H,
+    alloc: Global,
+    bound: u64,
+    workers: u32,
+    src: &mut S,
+    sink: &mut K,
+    gate: &G,
+) -> Status
+    requires some { 1 ≤ workers }
+    requires few { workers ≤ 8 }
+    ensures answers { (words : List (List ℕ)) → IsSynth words bound workers → Answers words
+        (record {
+            bytes_before = S.left src.old;
+            bytes_after = S.left src.new;
+            faults_before = S.faults src.old;
+            faults_after = S.faults src.new;
+        })
+        (record {
+            bytes_before = K.written sink.old;
+            bytes_after = K.written sink.new;
+            faults_before = K.faults sink.old;
+            faults_after = K.faults sink.new;
+        }) result }
+    ensures unwritten { (result ≡ Status.NoMemory) ⊎ (result ≡ Status.ReadFault) → sink.new ≡ sink.old }
+    ensures no_usage { result ≡ Status.Usage → ⊥ }
+    ensures reads { S.faults src.old ≤ S.faults src.new }
+    ensures writes { K.faults sink.old ≤ K.faults sink.new }
+{
+    let text = match read_all(alloc, src, LONGEST) {
+        Ok(text) => text,
+        Err(ReadAllFault::Failed) => return Status::ReadFault,
+        Err(ReadAllFault::TooLong) => return respond(sink, TOO_LONG, Status::Refused),
+        Err(ReadAllFault::Memory) => return Status::NoMemory,
+    };
+    match synth(th, alloc, &text, bound, workers, gate) {
+        Ok((status, bytes)) => respond(sink, &bytes, status),
+        Err(AllocError) => Status::NoMemory,
+    }
+}
+
+/// Writes what `levels` answers.
+fn run_levels<H: Threads + Sync, K: Sink, G: Turnstile + Sync>(
+    th: &H,
+    alloc: Global,
+    qubits: u8,
+    top: u8,
+    workers: u32,
+    sink: &mut K,
+    gate: &G,
+) -> Status
+    requires some { 1 ≤ qubits }
+    requires few { qubits ≤ 3 }
+    requires low { top ≤ most_letters qubits }
+    requires any { 1 ≤ workers }
+    requires crew { workers ≤ 8 }
+    ensures answers { (result ≡ Status.NoMemory) ⊎ Responds (record {
+        bytes_before = K.written sink.old;
+        bytes_after = K.written sink.new;
+        faults_before = K.faults sink.old;
+        faults_after = K.faults sink.new;
+    }) (levels_line qubits top) Status.Found result }
+    ensures unwritten { result ≡ Status.NoMemory → sink.new ≡ sink.old }
+    ensures writes { K.faults sink.old ≤ K.faults sink.new }
+{
+    match sizes(th, alloc, qubits, top, workers, gate) {
+        Ok(line) => respond(sink, &line, Status::Found),
+        Err(AllocError) => Status::NoMemory,
+    }
+}
+
 /// Does what the words ask for: reads the source, writes the outcome to the sink, and answers its status. It returns for
 /// every input.
 ///
-/// The outcome for words and a text is that of `specs/Out`. In its place comes [`Status::NoMemory`] at want of memory,
-/// [`Status::ReadFault`] where a read failed, both before the first byte is written, and [`Status::WriteFault`] where a
-/// write failed, behind a part of the outcome's bytes. Words that are no command take no memory and read nothing.
-pub fn run<S: Source, K: Sink>(alloc: Global, words: &[&str], src: &mut S, sink: &mut K) -> Status
+/// For every accepted text on n qubits, bound m within n's limit, number of workers and schedule: status 0 writes a circuit
+/// whose matrix is the input's up to global phase and whose T-count no circuit of these gates on these qubits undercuts;
+/// status 1 writes `above m`, and no circuit with at most m T gates has that matrix; else it answers want of memory, or a
+/// device failed.
+///
+/// The gates are h, s, sdg, t, tdg and cx, and a circuit is any finite list of them. A text is accepted where it reads as a
+/// circuit on one to three qubits and has at most 65,536 bytes, and the limit of m is 18, 12 or 8. Which status and which
+/// bytes are the outcome for words and a text is said in `specs/Out`, for every text and for the other commands too. The
+/// number of workers, the gate and the schedule are no part of it, and [`one_outcome`](crate::laws::one_outcome) says that
+/// there is one outcome: so the bytes are a function of the words and the text.
+///
+/// In its place comes [`Status::NoMemory`] at want of memory, [`Status::ReadFault`] where a read failed, both before the first
+/// byte is written, and [`Status::WriteFault`] where a write failed, behind a part of the outcome's bytes. Words that are no
+/// command take no memory and read nothing.
+pub fn run<H: Threads + Sync, S: Source, K: Sink, G: Turnstile + Sync>(
+    th: &H,
+    alloc: Global,
+    words: &[&str],
+    src: &mut S,
+    sink: &mut K,
+    gate: &G,
+) -> Status
     ensures answers { Answers (texts_of words.now)
-        (S.left src.old) (S.left src.new) (S.faults src.old) (S.faults src.new)
-        (K.written sink.old) (K.written sink.new) (K.faults sink.old) (K.faults sink.new) result }
+        (record {
+            bytes_before = S.left src.old;
+            bytes_after = S.left src.new;
+            faults_before = S.faults src.old;
+            faults_after = S.faults src.new;
+        })
+        (record {
+            bytes_before = K.written sink.old;
+            bytes_after = K.written sink.new;
+            faults_before = K.faults sink.old;
+            faults_after = K.faults sink.new;
+        }) result }
 
-    // Nothing was written before want of memory or a fault of reading.
+    // Nothing at all became of the sink before want of memory or a fault of reading.
     ensures unwritten { (result ≡ Status.NoMemory) ⊎ (result ≡ Status.ReadFault) → sink.new ≡ sink.old }
 
     // Whatever the source and the sink tell, words that are no command, and they alone, end in usage or in a failed write
-    // of the usage line, and leave the source as it was.
+    // of the usage line.
     ensures usage { result ≡ Status.Usage → IsCommand (texts_of words.now) → ⊥ }
-    ensures no_command { (IsCommand (texts_of words.now) → ⊥)
-        → Responds (K.written sink.old) (K.written sink.new) (K.faults sink.old) (K.faults sink.new)
-        usage_line Status.Usage result }
-    ensures unread { (IsCommand (texts_of words.now) → ⊥) → src.new ≡ src.old }
+    ensures no_command { (IsCommand (texts_of words.now) → ⊥) → Responds (record {
+        bytes_before = K.written sink.old;
+        bytes_after = K.written sink.new;
+        faults_before = K.faults sink.old;
+        faults_after = K.faults sink.new;
+    }) usage_line Status.Usage result }
+
+    // Words that ask for no text leave the source as it was.
+    ensures unread { (AskText (texts_of words.now) → ⊥) → src.new ≡ src.old }
 
     // The counts of faults never fall.
     ensures reads { S.faults src.old ≤ S.faults src.new }
     ensures writes { K.faults sink.old ≤ K.faults sink.new }
 {
-    if !is_command(words) {
-        return respond(sink, USAGE, Status::Usage);
-    }
-    let text = match read_all(alloc, src, LONGEST) {
-        Ok(text) => text,
-        Err(ReadAllFault::Failed) => return Status::ReadFault,
-        Err(ReadAllFault::TooLong) => return respond(sink, b"refused 14\n", Status::Refused),
-        Err(ReadAllFault::Memory) => return Status::NoMemory,
-    };
-    match answer(alloc, &text) {
-        Ok((status, bytes)) => respond(sink, &bytes, status),
-        Err(AllocError) => Status::NoMemory,
+    match Command::of_words(words) {
+        Some(Command::Synth { bound, workers }) => {
+            run_synth(th, alloc, bound, workers, src, sink, gate)
+        }
+        Some(Command::Levels {
+            qubits,
+            top,
+            workers,
+        }) => run_levels(th, alloc, qubits, top, workers, sink, gate),
+        None => respond(sink, USAGE, Status::Usage),
     }
 }

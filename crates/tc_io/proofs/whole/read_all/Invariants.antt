@@ -7,7 +7,7 @@ invariant-loop-bytes g l = record {
   short : vec_len l.bytes ≤ l.limit;
   room : length l.chunk ≡ 4096;
   gone : Consumes (g.S.Source.left l.fn.src) (g.S.Source.left l.src) l.bytes.items;
-  later : g.S.Source.faults l.fn.src ≤ g.S.Source.faults l.src;
+  still : g.S.Source.faults l.src ≡ g.S.Source.faults l.fn.src;
 }
 
 abbrev pub decreases-loop-bytes : goal.decreases-loop-bytes

@@ -1,29 +1,26 @@
-use Rattle.std.proofs.Common.{ℕ, List, sym, ap, subst, Err}
-use Rattle.tcount_top.specs.Words.{texts_of, IsCommand, usage_line}
-use Rattle.tcount_top.specs.Out.{IsDue}
-use Rattle.tcount_top.specs.declared.top.Status.TheVariants.{Refused, Usage}
-use Rattle.tcount_top.proofs.Answering.{responded, responded_due, past_taken, past_out, usage_out, refuted}
+use Rattle.std.proofs.Common.{◌≡◌, refl, ap, subst}
+use Rattle.tcount_top.specs.declared.command.Command.{Command}
+use Rattle.tcount_top.specs.declared.command.Command.TheVariants.{Synth, Levels}
+use Rattle.tcount_top.specs.Words.{texts_of, Spell, IsSynth, IsLevels}
+use Rattle.tcount_top.specs.Lines.{usage_line}
+use Rattle.tcount_top.proofs.Answering.{usage_answers, levels_answers}
 use Rattle.tcount_top.proofs.top.run.Goals as goal
 
-pub returns-then-not-is_command-clause-answers : goal.returns-then-not-is_command-clause-answers
+pub returns-in-Some-Synth-clause-answers : goal.returns-in-Some-Synth-clause-answers
+returns-in-Some-Synth-clause-answers g c =
+    let words = texts_of c.args.words.now in
+    let is : IsSynth words c.in-Some-Synth.bound c.in-Some-Synth.workers = subst (λ (x : Command). Spell words x) c.in-Some-Synth.field-0-is c.in-Some-Synth.ensures.some in c.run_synth.ensures.answers words is
+
+pub returns-in-Some-Levels-clause-answers : goal.returns-in-Some-Levels-clause-answers
+returns-in-Some-Levels-clause-answers g c =
+    let words = texts_of c.args.words.now in
+    let is : IsLevels words c.in-Some-Levels.qubits c.in-Some-Levels.top c.in-Some-Levels.workers = subst (λ (x : Command). Spell words x) c.in-Some-Levels.field-0-is c.in-Some-Levels.ensures.some in
+    levels_answers words _ _ c.in-Some-Levels.qubits c.in-Some-Levels.top c.in-Some-Levels.workers is _ refl refl (λ e. ap (g.K.Sink.written) (c.run_levels.ensures.unwritten e)) c.run_levels.ensures.answers
+
+pub returns-in-None-clause-answers : goal.returns-in-None-clause-answers
 unfolding usage_line
-returns-then-not-is_command-clause-answers g c =
-    let none = refuted c.is_command.result (IsCommand (texts_of c.args.words.now)) c.is_command.ensures.1 c.if-not-is_command.true in
-    responded _ _ _ _ _ _ _ _ _ Usage _ _ tt (usage_out _ _ none) (λ command. absurd (none command)) c.respond.ensures.responds
+returns-in-None-clause-answers g c = usage_answers (texts_of c.args.words.now) _ _ c.in-None.ensures.none _ refl refl c.respond.ensures.responds
 
-pub returns-then-not-is_command-clause-no_command : goal.returns-then-not-is_command-clause-no_command
+pub returns-in-None-clause-no_command : goal.returns-in-None-clause-no_command
 unfolding usage_line
-returns-then-not-is_command-clause-no_command g c = λ _. c.respond.ensures.responds
-
-pub returns-in-Err-TooLong-clause-answers : goal.returns-in-Err-TooLong-clause-answers
-returns-in-Err-TooLong-clause-answers g c =
-    let command = c.is_command.ensures.0 c.if-not-is_command.false in
-    let past = c.in-Err-TooLong.ensures.too_long (ap (λ x. Err x) c.in-Err-TooLong.field-0-is) in
-    responded _ _ _ _ _ _ _ _ _ Refused _ _ tt (past_out _ _ _ command past) (λ _. past_taken _ _ past) c.respond-in-Err-TooLong.ensures.responds
-
-pub returns-in-Ok-answer-clause-answers : goal.returns-in-Ok-answer-clause-answers
-returns-in-Ok-answer-clause-answers g c =
-    let command = c.is_command.ensures.0 c.if-not-is_command.false in
-    let due = subst (λ (bytes : List ℕ). IsDue c.in-Ok.text.items c.in-Ok-answer.status bytes) (sym c.deref-in-Ok-answer.ensures.value)
-    (subst (λ (text : List ℕ). IsDue text c.in-Ok-answer.status c.in-Ok-answer.bytes.items) c.deref.ensures.value c.in-Ok-answer.ensures) in
-    responded_due _ _ _ _ _ _ _ _ _ c.in-Ok-answer.status _ c.in-Ok.text.items _ command c.in-Ok.ensures.ok due c.respond-in-Ok-answer.ensures.responds
+returns-in-None-clause-no_command g c = λ _. c.respond.ensures.responds

@@ -1,7 +1,0 @@
-use Rattle.std.proofs.Common.{append_assoc}
-use Rattle.tcount_top.specs.Refusal.{refusal_line}
-use Rattle.tcount_top.proofs.answer.refusal.Goals as goal
-
-pub returns : goal.returns
-unfolding refusal_line
-returns c = rw c.into_bytes.ensures.value (simp append_assoc c.in_ok-line.ensures.ok)

@@ -1,0 +1,123 @@
+//! The words of the command line, and the command that they are.
+ghost use Rattle.std.specs.Prelude.{◌≡◌, ◌↔◌, ℕ, ◌<◌, ◌≤◌, IsTrue, [], ◌∷◌, IfSome, IfNone, get_or};
+ghost use Rattle.coset_label.specs.Words.{most_letters};
+ghost use Rattle.tcount_top.specs.Words.{texts_of, IsNumber, Spell, IsCommand};
+
+/// What the words of the command line ask for.
+#[derive(Clone, Copy, Debug, PartialEq, Eq)]
+pub(crate) enum Command {
+    /// The least T-count of the circuit that the source gives, where it is at most the bound.
+    Synth {
+        /// The most T gates.
+        bound: u64,
+        /// The number of workers, 1 to 8.
+        workers: u32,
+    },
+    /// The sizes of levels.
+    Levels {
+        /// The number of qubits, 1 to 3.
+        qubits: u8,
+        /// The number of the last level.
+        top: u8,
+        /// The number of workers, 1 to 8.
+        workers: u32,
+    },
+}
+
+/// The most digits of a number.
+const MOST_DIGITS: usize = 10;
+
+/// Whether a word begins with a digit from 1 to 9.
+fn begins_plainly(word: &[u8]) -> bool
+    ensures { IsTrue result ↔ (48 < get_or word.now 0 0 × get_or word.now 0 0 < 58) }
+{
+    match word {
+        [first, ..] => b'0' < *first && *first <= b'9',
+        [] => false,
+    }
+}
+
+/// The number that a word is: at most ten decimal digits, with no sign and no leading zero.
+fn number(word: &str) -> Option<u64>
+    ensures some { IfSome result (λ n. IsNumber word.now n) }
+    ensures none { IfNone result ((n : ℕ) → IsNumber word.now n → ⊥) }
+{
+    if word == "0" {
+        return Some(0);
+    }
+    if !begins_plainly(word.as_bytes()) || word.len() > MOST_DIGITS {
+        return None;
+    }
+    word.parse().ok()
+}
+
+/// The number that a word is, where it is in a range.
+fn number_within(word: &str, low: u32, high: u32) -> Option<u32>
+    ensures some { IfSome result (λ n. IsNumber word.now n × low ≤ n × n ≤ high) }
+    ensures none { IfNone result ((n : ℕ) → IsNumber word.now n → low ≤ n → n ≤ high → ⊥) }
+{
+    let number = number(word)?;
+    if number < low as u64 || number > high as u64 {
+        return None;
+    }
+    Some(number as u32)
+}
+
+/// The command `synth`, where three words are it.
+fn synth(name: &str, bound: &str, workers: &str) -> Option<Command>
+    ensures some { IfSome result (λ command. Spell (name.now ∷ bound.now ∷ workers.now ∷ []) command) }
+    ensures none { IfNone result (IsCommand (name.now ∷ bound.now ∷ workers.now ∷ []) → ⊥) }
+{
+    if name != "synth" {
+        return None;
+    }
+    let bound = number(bound)?;
+    let workers = number_within(workers, 1, 8)?;
+    Some(Command::Synth { bound, workers })
+}
+
+/// The number of the last level on so many qubits, at most: words have so many letters.
+pub(crate) fn most_letters(qubits: u8) -> u8
+    requires some { 1 ≤ qubits }
+    requires few { qubits ≤ 3 }
+    ensures { result ≡ most_letters qubits }
+{
+    match qubits {
+        1 => 9,
+        2 => 6,
+        _ => 4,
+    }
+}
+
+/// The command `levels`, where four words are it.
+fn levels(name: &str, qubits: &str, top: &str, workers: &str) -> Option<Command>
+    ensures some { IfSome result (λ command.
+        Spell (name.now ∷ qubits.now ∷ top.now ∷ workers.now ∷ []) command) }
+    ensures none { IfNone result (IsCommand (name.now ∷ qubits.now ∷ top.now ∷ workers.now ∷ []) → ⊥) }
+{
+    if name != "levels" {
+        return None;
+    }
+    let qubits = number_within(qubits, 1, 3)? as u8;
+    let top = number_within(top, 0, most_letters(qubits) as u32)? as u8;
+    let workers = number_within(workers, 1, 8)?;
+    Some(Command::Levels {
+        qubits,
+        top,
+        workers,
+    })
+}
+
+impl Command {
+    /// The command that words are. It takes no memory.
+    pub(crate) fn of_words(words: &[&str]) -> Option<Command>
+        ensures some { IfSome result (λ command. Spell (texts_of words.now) command) }
+        ensures none { IfNone result (IsCommand (texts_of words.now) → ⊥) }
+    {
+        match words {
+            [name, bound, workers] => synth(name, bound, workers),
+            [name, qubits, top, workers] => levels(name, qubits, top, workers),
+            _ => None,
+        }
+    }
+}

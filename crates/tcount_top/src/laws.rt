@@ -1,0 +1,44 @@
+//! What holds of the outcomes.
+//!
+//! Each of these functions does nothing. Its contract is the law, for a caller's proof to use.
+ghost use Rattle.tcount_top.specs.Laws.{OneCommand, OneOutcome, PrintedOnce, LeastCountsExist};
+
+use coset_label::laws::tables_are_classes;
+use level_laws::laws::{cosets_have_least_words, letters_come_off};
+use meet_laws::laws::{least_counts_are_lengths, words_stand_behind_rests};
+use qasm_reader::{one_reading, read_circuits_are_small};
+use tc_bridge::laws::{circuits_have_one_channel, one_channel_where_same};
+use tc_ring::surd_laws_hold;
+
+/// Words are at most one command.
+pub fn one_command()
+    ensures { OneCommand }
+{}
+
+/// Circuits with one matrix up to global phase, and so with one channel, are printed as the same bytes.
+pub fn printed_once()
+    ensures { PrintedOnce }
+{
+    surd_laws_hold();
+    tables_are_classes();
+    circuits_have_one_channel();
+    one_channel_where_same();
+    cosets_have_least_words();
+    letters_come_off();
+    words_stand_behind_rests();
+}
+
+/// Words and a text have at most one outcome: one status, and one list of bytes. Of the statuses of a text's circuit and a
+/// bound within its limit, Found is that of a least T-count up to the bound and Above that of a greater one, and each circuit
+/// of a text has a least T-count.
+pub fn one_outcome()
+    ensures one { OneOutcome }
+    ensures counted { LeastCountsExist }
+{
+    circuits_have_one_channel();
+    one_channel_where_same();
+    one_reading();
+    read_circuits_are_small();
+    least_counts_are_lengths();
+    printed_once();
+}
