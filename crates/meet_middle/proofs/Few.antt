@@ -1,8 +1,6 @@
 -- How many fronts there are at most.
-use Rattle.std.proofs.Common.{ℕ, ◌*◌, ◌^◌, ◌<◌, ◌≤◌, List, length, subst, arith}
+use Rattle.std.proofs.Common.{ℕ, ◌*◌, ◌≤◌, length, arith}
 use Rattle.std.proofs.lemmas.Nat.{mul-le}
-use Rattle.coset_label.specs.Words.{most_letters}
-use Rattle.level_laws.specs.Levels.{IsLevel}
 use Rattle.level_laws.proofs.ShortWords.{level_few}
 use Rattle.level_store.specs.declared.level.Level.{Level}
 use Rattle.level_store.specs.Stored.{IsStored, letters_in, words_of}

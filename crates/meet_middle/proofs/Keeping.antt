@@ -1,5 +1,5 @@
 -- What a worker keeps is told by its cells.
-use Rattle.std.proofs.Common.{◌≡◌, ℕ, ◌^◌, ◌%◌, ◌<◌, Bool, true, ◌==◌, ◌&&◌, ◌||◌, ltb, nat_abs, List, refl, ap}
+use Rattle.std.proofs.Common.{◌≡◌, ℕ, ◌^◌, ◌%◌, ◌<◌, Bool, ◌==◌, ◌&&◌, ltb, nat_abs, List, refl, ap}
 use Rattle.std.specs.Bool.{Decides}
 use Rattle.std.proofs.lemmas.Bool.Decides.{Decides-like, Decides-and, Decides-or, Decides-eqb, Decides-int_eq, Decides-ltb, Decides-below_and, Decides-below_or}
 use Rattle.ring_laws.specs.Ring.{power}

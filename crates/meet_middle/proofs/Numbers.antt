@@ -1,5 +1,5 @@
 -- The word of a number.
-use Rattle.std.proofs.Common.{◌≡◌, ℕ, ◌<◌, Bool, true, List, [], Option, None, Some, All, length, map, slice_get, slice_index_or, eqb, ap, sym, ◌∙◌, subst, true≢false}
+use Rattle.std.proofs.Common.{◌≡◌, ℕ, ◌<◌, true, List, [], Option, None, Some, All, length, slice_get, slice_index_or, eqb, ap, sym, ◌∙◌, subst, true≢false}
 use Rattle.std.specs.Option.{option_eq}
 use Rattle.std.proofs.lemmas.Bool.Decides.{Decides-eqb}
 use Rattle.std.proofs.lemmas.List.{get_or-map}

@@ -1,11 +1,11 @@
 -- What is left of a target behind a front.
-use Rattle.std.proofs.Common.{◌≡◌, ◌≢◌, ℕ, true, ◌+◌, ◌^◌, ◌<◌, ◌≤◌, zero, suc, List, [], ◌∷◌, ◌++◌, Option, Some, None, length, slice_index_or, refl, ap, sym, ◌∙◌, subst, arith}
+use Rattle.std.proofs.Common.{◌≡◌, ◌≢◌, ℕ, true, ◌+◌, ◌^◌, ◌<◌, ◌≤◌, List, [], ◌∷◌, ◌++◌, Option, Some, None, length, slice_index_or, refl, ap, sym, ◌∙◌, subst, arith}
 use Rattle.ring_laws.specs.Matrix.{product, Agree}
 use Rattle.tc_ring.specs.Surds.{surds}
 use Rattle.channel_rep.specs.Cells.{ChannelGrid, scaled, table_of}
 use Rattle.channel_rep.specs.Tables.{ScaledTable, rotation_table, SameTable, IsCircuitChannel, built}
 use Rattle.channel_rep.specs.Words.{IsWord}
-use Rattle.channel_rep.proofs.Built.{same_table_refl, same_table_sym, same_table_trans}
+use Rattle.channel_rep.proofs.Built.{same_table_sym, same_table_trans}
 use Rattle.coset_label.specs.Labels.{HasLeastExponent, Label, IsLabelOf}
 use Rattle.coset_label.specs.Words.{RotationWord}
 use Rattle.level_laws.specs.Levels.{IsLevel, IsFound, StandsIn, removed}

@@ -1,5 +1,5 @@
 -- What a worker keeps of the target from one position to the next.
-use Rattle.std.specs.Prelude.{◌≡◌, ℕ, ◌+◌, ◌%◌, ◌^◌, ◌<◌, ◌≤◌, ltb, Bool, true, ◌&&◌, ◌||◌, ◌==◌, nat_abs, List, [], Option, None, Some, slice_index_or}
+use Rattle.std.specs.Prelude.{◌≡◌, ℕ, ◌%◌, ◌^◌, ◌<◌, ◌≤◌, ltb, Bool, true, ◌&&◌, ◌||◌, ◌==◌, nat_abs, List, [], Option, None, Some, slice_index_or}
 use Rattle.ring_laws.specs.Ring.{power}
 use Rattle.tc_ring.specs.Surds.{surds, surd_times, root2_surd}
 use Rattle.channel_rep.specs.Cells.{ChannelGrid, scaled, table_of, IsReduced}

@@ -1,4 +1,4 @@
-use Rattle.std.proofs.Common.{ℕ, Option, IfNone, ◌<◌, ◌+◌, ◌∙◌, arith, rules, subst}
+use Rattle.std.proofs.Common.{ℕ, IfNone, ◌<◌, ◌+◌, ◌∙◌, arith, rules, subst}
 use Rattle.channel_rep.specs.Cells.{scaled}
 use Rattle.level_laws.specs.Levels.{NoneBelow}
 use Rattle.level_laws.proofs.Exponents.{none_past, reduced_least}

@@ -1,9 +1,6 @@
-use Rattle.std.proofs.Common.{◌≡◌, ℕ, ◌<◌, ◌∙◌, ap, sym, subst, rules}
+use Rattle.std.proofs.Common.{◌<◌, rules}
 use Rattle.channel_rep.specs.Cells.{scaled}
-use Rattle.channel_rep.specs.Tables.{IsCircuitChannel}
-use Rattle.coset_label.specs.Labels.{IsLabelOf}
 use Rattle.level_laws.proofs.Exponents.{past_level, reduced_least}
-use Rattle.level_store.specs.Stored.{Finds}
 use Rattle.meet_middle.proofs.Resting.{finds_named}
 use Rattle.meet_middle.proofs.rests.find_rest.Goals as goal
 

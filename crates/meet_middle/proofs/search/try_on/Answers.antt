@@ -1,9 +1,9 @@
-use Rattle.std.proofs.Common.{◌≡◌, ℕ, ◌<◌, ◌++◌, false, Option, IfSome, IfNone, length, arith, ap, sym, subst}
+use Rattle.std.proofs.Common.{◌≡◌, ℕ, ◌<◌, false, Option, IfSome, IfNone, length, arith, ap, sym, subst}
 use Rattle.channel_rep.specs.Cells.{scaled}
 use Rattle.level_laws.specs.Levels.{IsLeastWord}
 use Rattle.level_store.specs.Stored.{letters_in}
 use Rattle.steal_sweep.specs.Searches.{IsLeastHit}
-use Rattle.meet_middle.specs.Fronts.{front_of, fronts_of, front_meets}
+use Rattle.meet_middle.specs.Fronts.{fronts_of, front_meets}
 use Rattle.meet_middle.proofs.Totals.{none_hit, first_hit, long_hit}
 use Rattle.meet_middle.proofs.search.try_on.Goals as goal
 

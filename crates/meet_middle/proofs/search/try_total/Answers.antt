@@ -1,4 +1,4 @@
-use Rattle.std.proofs.Common.{◌≡◌, ℕ, sym, subst, arith, rules}
+use Rattle.std.proofs.Common.{◌≡◌, ℕ, subst, rules}
 use Rattle.meet_middle.specs.Kept.{IsAsked}
 use Rattle.meet_middle.proofs.search.try_total.Goals as goal
 

@@ -1,11 +1,11 @@
-use Rattle.std.proofs.Common.{◌≡◌, ℕ, ◌<◌, ◌++◌, true, List, [], Some, Option, length, slice_index_or, ap, sym, ◌∙◌, subst, rules}
+use Rattle.std.proofs.Common.{◌≡◌, ℕ, ◌<◌, ◌++◌, true, List, [], Option, length, slice_index_or, sym, ◌∙◌, subst, rules}
 use Rattle.channel_rep.specs.Cells.{scaled}
 use Rattle.channel_rep.specs.Tables.{IsCircuitChannel}
 use Rattle.level_laws.specs.Levels.{removed}
 use Rattle.level_store.specs.Stored.{Finds, letters_in, words_of}
 use Rattle.std.proofs.lemmas.List.{length-map}
 use Rattle.coset_label.specs.Words.{RotationWord}
-use Rattle.meet_middle.specs.Fronts.{front_of, number_of, middle_of}
+use Rattle.meet_middle.specs.Fronts.{number_of}
 use Rattle.meet_middle.specs.Kept.{IsKept, keeps}
 use Rattle.meet_middle.specs.Halves.{middle_letters}
 use Rattle.meet_middle.proofs.Halving.{front_parts, number_below}

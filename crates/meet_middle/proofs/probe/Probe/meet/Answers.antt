@@ -1,7 +1,7 @@
-use Rattle.std.proofs.Common.{◌≡◌, ◌≢◌, ℕ, ◌^◌, ◌<◌, ◌≤◌, ◌+◌, List, [], ◌∷◌, ◌++◌, Option, IfSome, refl, ap, sym, ◌∙◌, subst, rules}
+use Rattle.std.proofs.Common.{◌≡◌, ◌≢◌, ℕ, ◌^◌, ◌<◌, ◌+◌, List, [], ◌∷◌, ◌++◌, Option, IfSome, ap, sym, ◌∙◌, subst, rules}
 use Rattle.std.proofs.lemmas.List.{append-nil}
 use Rattle.channel_rep.specs.Cells.{ChannelGrid, scaled}
-use Rattle.channel_rep.specs.Tables.{ScaledTable, SameTable, IsCircuitChannel}
+use Rattle.channel_rep.specs.Tables.{IsCircuitChannel}
 use Rattle.channel_rep.proofs.Built.{same_table_refl}
 use Rattle.coset_label.specs.Labels.{HasLeastExponent}
 use Rattle.level_laws.proofs.Exponents.{reduced_least}

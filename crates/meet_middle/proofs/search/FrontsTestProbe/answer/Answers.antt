@@ -1,4 +1,4 @@
-use Rattle.std.proofs.Common.{◌≡◌, ◌∙◌, rules}
+use Rattle.std.proofs.Common.{◌∙◌}
 use Rattle.channel_rep.specs.Cells.{scaled}
 use Rattle.level_laws.specs.Levels.{removed}
 use Rattle.level_store.specs.Stored.{letters_in}
