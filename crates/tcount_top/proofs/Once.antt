@@ -49,6 +49,7 @@ least_of_same classes n a b h w least = record {
   where
     back : SameTable n b a
     back = same_table_sym n a b h
+
     to : (c d : ScaledTable) → SameTable n c d → (v : List ℕ) → IsInCoset n c v → IsInCoset n d v
     to c d same v is = record { word = is.word; coset = (classes n).transitive d c _ ((classes n).symmetric c d (coset_of_same n c d same)) is.coset }
 

@@ -82,7 +82,7 @@ made_shows make prints c small m is w bytes h =
       };
       shows = h.shows;
       reads = subst (λ (b : List ℕ). Reads b (record { qubits = n; gates = gates })) (sym h.shows)
-      (prints n (length w) gates (word_texts n w) small.some small.few best.circuit (omega (arith, best.count, h.few)) (omega (arith, length-append h.rest (word_gates n w), h.short, h.blocks, h.few)) h.letters);
+          (prints n (length w) gates (word_texts n w) small.some small.few best.circuit (omega (arith, best.count, h.few)) (omega (arith, length-append h.rest (word_gates n w), h.short, h.blocks, h.few)) h.letters);
     }
 
 -- two facts of a result at once

@@ -29,10 +29,10 @@ pub first_of_number : (word : List ℕ) (n : ℕ) → IsNumber word n → (word 
 first_of_number word n h = elim (cases_eq n 0) [
   | inl e ↦ inl (h.0 ∙ ap decimal e ∙ decimal_digit 0 (omega arith))
   | inr e ↦ inr (
-      subst (λ (w : List ℕ). 48 < get_or w 0 0) (sym h.0) (first_decimal n (omega arith) (small n h.1)),
-      subst (λ (w : List ℕ). get_or w 0 0 < 58) (sym h.0) (let d : IsInRange 48 57 (get_or (decimal n) 0 0) = digits_decimal own n (small n h.1) 0 (decimal_nonempty n (small n h.1)) in omega (arith, d)),
-      subst (λ (w : List ℕ). length w ≤ 10) (sym h.0) (length-decimal-le 10 n (omega arith) h.1 (small n h.1)),
-    )
+    subst (λ (w : List ℕ). 48 < get_or w 0 0) (sym h.0) (first_decimal n (omega arith) (small n h.1)),
+    subst (λ (w : List ℕ). get_or w 0 0 < 58) (sym h.0) (let d : IsInRange 48 57 (get_or (decimal n) 0 0) = digits_decimal own n (small n h.1) 0 (decimal_nonempty n (small n h.1)) in omega (arith, d)),
+    subst (λ (w : List ℕ). length w ≤ 10) (sym h.0) (length-decimal-le 10 n (omega arith) h.1 (small n h.1)),
+  )
 ]
 
 -- a word is one number

@@ -57,11 +57,7 @@ fn take_off(channel: &mut Channel, letters: &[Pauli])
 }
 
 /// What is left of a channel without a word's letters, with the least exponent.
-fn left_without(
-    alloc: Global,
-    channel: &Channel,
-    letters: &[Pauli],
-) -> Result<Channel, AllocError>
+fn left_without(alloc: Global, channel: &Channel, letters: &[Pauli]) -> Result<Channel, AllocError>
     requires qubits { All (λ p. p.qubits ≡ channel.now.qubits) letters.now }
     requires other { All (λ p. p.code ≢ 0) letters.now }
     requires room { channel.now.grown + length letters.now ≤ 62 }

@@ -11,10 +11,12 @@ use steal_sweep::{OpenWay, Turnstile};
 use tc_io::{CleanSource, MemSink, MemSource, StdSink, StdSource};
 
 // The controlled S gate: a T gate on each of two qubits, and an inverse one behind a controlled not.
-const CONTROLLED_S: &str = "OPENQASM 2.0;\nqreg q[2];\nt q[0];\nt q[1];\ncx q[0],q[1];\ntdg q[1];\ncx q[0],q[1];\n";
+const CONTROLLED_S: &str =
+    "OPENQASM 2.0;\nqreg q[2];\nt q[0];\nt q[1];\ncx q[0],q[1];\ntdg q[1];\ncx q[0],q[1];\n";
 
 // What is printed for it.
-const CONTROLLED_S_PRINTED: &str = "// t-count 3\n// word IZ ZI ZZ\nOPENQASM 2.0;\ninclude \"qelib1.inc\";\nqreg q[2];\nh q[1];\ns q[1];\nh q[1];\ns q[1];\ns q[0];\ns q[0];\ncx q[0],q[1];\nh q[1];\ns q[0];\ncx q[0],q[1];\nt q[1];\ncx q[0],q[1];\nt q[1];\nt q[0];\n";
+const CONTROLLED_S_PRINTED: &str =
+    "// t-count 3\n// word IZ ZI ZZ\nOPENQASM 2.0;\ninclude \"qelib1.inc\";\nqreg q[2];\nh q[1];\ns q[1];\nh q[1];\ns q[1];\ns q[0];\ns q[0];\ncx q[0],q[1];\nh q[1];\ns q[0];\ncx q[0],q[1];\nt q[1];\ncx q[0],q[1];\nt q[1];\nt q[0];\n";
 
 // The status of a run over a text, and the bytes that it writes.
 fn answer<H: Threads + Sync, G: Turnstile + Sync>(
@@ -137,7 +139,13 @@ fn outcomes(rt: HostRuntime) -> Result<(), Fail> {
         ),
     ];
     for (bound, text, status, bytes) in rows {
-        let (answered, written) = answer(&rt, rt.alloc(), &["synth", bound, "2"], text.as_bytes(), &OpenWay)?;
+        let (answered, written) = answer(
+            &rt,
+            rt.alloc(),
+            &["synth", bound, "2"],
+            text.as_bytes(),
+            &OpenWay,
+        )?;
         assert_eq!(rt; answered, status, "{bytes:?}");
         assert!(rt; written.as_slice() == bytes.as_bytes(), "{bytes:?}");
     }
@@ -204,7 +212,13 @@ fn refusals(rt: HostRuntime) -> Result<(), Fail> {
         ),
     ];
     for (bound, text, bytes) in rows {
-        let (status, written) = answer(&rt, rt.alloc(), &["synth", bound, "1"], text.as_bytes(), &OpenWay)?;
+        let (status, written) = answer(
+            &rt,
+            rt.alloc(),
+            &["synth", bound, "1"],
+            text.as_bytes(),
+            &OpenWay,
+        )?;
         assert_eq!(rt; status, Status::Refused, "{bytes:?}");
         assert!(rt; written.as_slice() == bytes.as_bytes(), "{bytes:?}");
     }
@@ -260,7 +274,10 @@ fn any_workers(rt: HostRuntime) -> Result<(), Fail> {
         let words = ["synth", "12", workers];
         let (status, bytes) = answer(&rt, rt.alloc(), &words, CONTROLLED_S.as_bytes(), &OpenWay)?;
         assert_eq!(rt; status, Status::Found);
-        assert!(rt; bytes.as_slice() == CONTROLLED_S_PRINTED.as_bytes(), "{workers} workers");
+        assert!(rt;
+            bytes.as_slice() == CONTROLLED_S_PRINTED.as_bytes(),
+            "{workers} workers"
+        );
     }
     Ok(())
 }
@@ -276,9 +293,18 @@ fn sizes_of_levels(rt: HostRuntime) -> Result<(), Fail> {
     ];
     for (qubits, top, line) in rows {
         for workers in ["1", "2", "3", "8"] {
-            let (status, bytes) = answer(&rt, rt.alloc(), &["levels", qubits, top, workers], b"", &OpenWay)?;
+            let (status, bytes) = answer(
+                &rt,
+                rt.alloc(),
+                &["levels", qubits, top, workers],
+                b"",
+                &OpenWay,
+            )?;
             assert_eq!(rt; status, Status::Found);
-            assert!(rt; bytes.as_slice() == line.as_bytes(), "{qubits} qubits, {workers} workers");
+            assert!(rt;
+                bytes.as_slice() == line.as_bytes(),
+                "{qubits} qubits, {workers} workers"
+            );
         }
     }
     Ok(())
@@ -298,7 +324,13 @@ fn two_workers_meet(rt: HostRuntime) -> Result<(), Fail> {
 #[test]
 fn two_searchers_meet(rt: HostRuntime) -> Result<(), Fail> {
     let gate = Meeting::new();
-    let (status, bytes) = answer(&rt, rt.alloc(), &["synth", "3", "2"], CONTROLLED_S.as_bytes(), &gate)?;
+    let (status, bytes) = answer(
+        &rt,
+        rt.alloc(),
+        &["synth", "3", "2"],
+        CONTROLLED_S.as_bytes(),
+        &gate,
+    )?;
     assert_eq!(rt; status, Status::Found);
     assert!(rt; bytes.as_slice() == CONTROLLED_S_PRINTED.as_bytes());
     assert!(rt; gate.was_seen());
@@ -306,18 +338,35 @@ fn two_searchers_meet(rt: HostRuntime) -> Result<(), Fail> {
     Ok(())
 }
 
+// A Toffoli gate takes seven T gates, and no circuit on its three qubits has fewer.
+#[test]
+fn toffoli(rt: HostRuntime) -> Result<(), Fail> {
+    let text = b"OPENQASM 2.0;\nqreg q[3];\nccx q[0],q[1],q[2];\n".as_slice();
+    let (status, bytes) = answer(&rt, rt.alloc(), &["synth", "6", "4"], text, &OpenWay)?;
+    assert_eq!(rt; status, Status::Above);
+    assert!(rt; bytes.as_slice() == b"above 6\n".as_slice());
+    let (status, bytes) = answer(&rt, rt.alloc(), &["synth", "7", "4"], text, &OpenWay)?;
+    assert_eq!(rt; status, Status::Found);
+    assert!(rt; bytes.starts_with(b"// t-count 7\n// word "));
+    Ok(())
+}
+
 // A circuit by a seed has at most as many T gates as are in its text, has one print whatever the number of workers, and the
 // print is its own.
 #[test]
 fn made_circuits(rt: HostRuntime) -> Result<(), Fail> {
-    for seed in 0..60u64 {
+    for seed in 0..200u64 {
         let (text, bound) = made::circuit(rt.alloc(), seed)?;
         let words = ["synth", bound, "1"];
         let (status, bytes) = answer(&rt, rt.alloc(), &words, &text, &OpenWay)?;
         assert_eq!(rt; status, Status::Found, "seed {seed}");
         for workers in ["1", "2", "3", "8"] {
-            let (_, again) = answer(&rt, rt.alloc(), &["synth", bound, workers], &bytes, &OpenWay)?;
-            assert!(rt; again.as_slice() == bytes.as_slice(), "seed {seed}, {workers} workers");
+            let words = ["synth", bound, workers];
+            let (_, again) = answer(&rt, rt.alloc(), &words, &bytes, &OpenWay)?;
+            assert!(rt;
+                again.as_slice() == bytes.as_slice(),
+                "seed {seed}, {workers} workers"
+            );
         }
     }
     Ok(())
@@ -338,7 +387,10 @@ fn faults(rt: HostRuntime) -> Result<(), Fail> {
         let mut source = MemSource::new(Vec::from_slice(alloc, text)?, 10, failing_reads);
         let mut sink = MemSink::new(alloc, 200, 10, failing_writes)?;
         let words = ["synth", "5", "1"];
-        assert_eq!(rt; run(&rt, alloc, &words, &mut source, &mut sink, &OpenWay), status);
+        assert_eq!(rt;
+            run(&rt, alloc, &words, &mut source, &mut sink, &OpenWay),
+            status
+        );
         assert!(rt; sink.bytes() == bytes);
     }
     Ok(())

@@ -58,10 +58,10 @@ const LONGEST: usize = 65536;
 /// Writes an outcome's bytes, and answers its status where the sink took them.
 fn respond<K: Sink>(sink: &mut K, bytes: &[u8], status: Status) -> Status
     ensures responds { Responds (record {
-        bytes_before = K.written sink.old;
-        bytes_after = K.written sink.new;
-        faults_before = K.faults sink.old;
-        faults_after = K.faults sink.new;
+      bytes_before = K.written sink.old;
+      bytes_after = K.written sink.new;
+      faults_before = K.faults sink.old;
+      faults_after = K.faults sink.new;
     }) bytes.now status result }
     ensures later { K.faults sink.old ≤ K.faults sink.new }
 {
@@ -85,16 +85,16 @@ fn run_synth<H: Threads + Sync, S: Source, K: Sink, G: Turnstile + Sync>(
     requires few { workers ≤ 8 }
     ensures answers { (words : List (List ℕ)) → IsSynth words bound workers → Answers words
         (record {
-            bytes_before = S.left src.old;
-            bytes_after = S.left src.new;
-            faults_before = S.faults src.old;
-            faults_after = S.faults src.new;
+          bytes_before = S.left src.old;
+          bytes_after = S.left src.new;
+          faults_before = S.faults src.old;
+          faults_after = S.faults src.new;
         })
         (record {
-            bytes_before = K.written sink.old;
-            bytes_after = K.written sink.new;
-            faults_before = K.faults sink.old;
-            faults_after = K.faults sink.new;
+          bytes_before = K.written sink.old;
+          bytes_after = K.written sink.new;
+          faults_before = K.faults sink.old;
+          faults_after = K.faults sink.new;
         }) result }
     ensures unwritten { (result ≡ Status.NoMemory) ⊎ (result ≡ Status.ReadFault) → sink.new ≡ sink.old }
     ensures no_usage { result ≡ Status.Usage → ⊥ }
@@ -129,10 +129,10 @@ fn run_levels<H: Threads + Sync, K: Sink, G: Turnstile + Sync>(
     requires any { 1 ≤ workers }
     requires crew { workers ≤ 8 }
     ensures answers { (result ≡ Status.NoMemory) ⊎ Responds (record {
-        bytes_before = K.written sink.old;
-        bytes_after = K.written sink.new;
-        faults_before = K.faults sink.old;
-        faults_after = K.faults sink.new;
+      bytes_before = K.written sink.old;
+      bytes_after = K.written sink.new;
+      faults_before = K.faults sink.old;
+      faults_after = K.faults sink.new;
     }) (levels_line qubits top) Status.Found result }
     ensures unwritten { result ≡ Status.NoMemory → sink.new ≡ sink.old }
     ensures writes { K.faults sink.old ≤ K.faults sink.new }
@@ -170,16 +170,16 @@ pub fn run<H: Threads + Sync, S: Source, K: Sink, G: Turnstile + Sync>(
 ) -> Status
     ensures answers { Answers (texts_of words.now)
         (record {
-            bytes_before = S.left src.old;
-            bytes_after = S.left src.new;
-            faults_before = S.faults src.old;
-            faults_after = S.faults src.new;
+          bytes_before = S.left src.old;
+          bytes_after = S.left src.new;
+          faults_before = S.faults src.old;
+          faults_after = S.faults src.new;
         })
         (record {
-            bytes_before = K.written sink.old;
-            bytes_after = K.written sink.new;
-            faults_before = K.faults sink.old;
-            faults_after = K.faults sink.new;
+          bytes_before = K.written sink.old;
+          bytes_after = K.written sink.new;
+          faults_before = K.faults sink.old;
+          faults_after = K.faults sink.new;
         }) result }
 
     // Nothing at all became of the sink before want of memory or a fault of reading.
@@ -189,10 +189,10 @@ pub fn run<H: Threads + Sync, S: Source, K: Sink, G: Turnstile + Sync>(
     // of the usage line.
     ensures usage { result ≡ Status.Usage → IsCommand (texts_of words.now) → ⊥ }
     ensures no_command { (IsCommand (texts_of words.now) → ⊥) → Responds (record {
-        bytes_before = K.written sink.old;
-        bytes_after = K.written sink.new;
-        faults_before = K.faults sink.old;
-        faults_after = K.faults sink.new;
+      bytes_before = K.written sink.old;
+      bytes_after = K.written sink.new;
+      faults_before = K.faults sink.old;
+      faults_after = K.faults sink.new;
     }) usage_line Status.Usage result }
 
     // Words that ask for no text leave the source as it was.
@@ -206,11 +206,13 @@ pub fn run<H: Threads + Sync, S: Source, K: Sink, G: Turnstile + Sync>(
         Some(Command::Synth { bound, workers }) => {
             run_synth(th, alloc, bound, workers, src, sink, gate)
         }
-        Some(Command::Levels {
-            qubits,
-            top,
-            workers,
-        }) => run_levels(th, alloc, qubits, top, workers, sink, gate),
+        Some(
+            Command::Levels {
+                qubits,
+                top,
+                workers,
+            },
+        ) => run_levels(th, alloc, qubits, top, workers, sink, gate),
         None => respond(sink, USAGE, Status::Usage),
     }
 }

@@ -1,4 +1,6 @@
 //! Circuits by a seed.
+ghost use Rattle.std.specs.Prelude.{◌<◌, ◌≤◌};
+
 use std::alloc::{AllocError, Global};
 use std::fmt::Write;
 
@@ -10,32 +12,61 @@ fn mixed(seed: u64, number: u64) -> u64 {
     z ^ (z >> 31)
 }
 
-/// Appends a few Clifford gates that a number draws: h or s on a qubit, and a controlled not from it to the next one.
-fn push_clifford(text: &mut String, qubits: u64, drawn: u64) -> Result<(), AllocError> {
+/// Appends a few Clifford gates that a number draws: h or s on a qubit, a controlled not from it to the next one, and h there.
+fn push_clifford(text: &mut String, qubits: u64, drawn: u64) -> Result<(), AllocError>
+    requires some { 0 < qubits }
+    requires few { qubits ≤ 3 }
+{
     let qubit = drawn % qubits;
-    let next = (drawn + 1) % qubits;
+    let next = (qubit + 1) % qubits;
     let name = if drawn & 8 == 0 { "h" } else { "s" };
-    write!(text, "{name} q[{qubit}];\ncx q[{qubit}],q[{next}];\nh q[{next}];\n")?;
+    write!(
+        text,
+        "{name} q[{qubit}];\ncx q[{qubit}],q[{next}];\nh q[{next}];\n"
+    )?;
     Ok(())
 }
 
-/// The text of a circuit on two qubits with at most four T gates, or on three with at most two, and how many it has.
-pub fn circuit(alloc: Global, seed: u64) -> Result<(Vec<u8>, &'static str), AllocError> {
-    let (qubits, few) = if seed % 2 == 0 { (2, 5) } else { (3, 3) };
-    let count = mixed(seed, 0) % few;
-    let mut text = format!(in alloc; "OPENQASM 2.0;\nqreg q[{qubits}];\n")?;
-    for i in 0..count {
-        push_clifford(&mut text, qubits, mixed(seed, 2 * i + 1) >> 8)?;
-        let qubit = mixed(seed, 2 * i + 2) % qubits;
-        write!(text, "t q[{qubit}];\n")?;
-    }
-    push_clifford(&mut text, qubits, mixed(seed, 9) >> 8)?;
-    let bound = match count {
+/// Appends a T gate behind a few Clifford gates, both drawn by a seed and a number.
+fn push_layer(text: &mut String, qubits: u64, seed: u64, number: u64) -> Result<(), AllocError>
+    requires some { 0 < qubits }
+    requires few { qubits ≤ 3 }
+{
+    let drawn = mixed(seed, number);
+    push_clifford(text, qubits, drawn >> 8)?;
+    let qubit = (drawn >> 40) % qubits;
+    write!(text, "t q[{qubit}];\n")?;
+    Ok(())
+}
+
+/// Two qubits or three.
+fn qubits_by(seed: u64) -> u64
+    ensures some { 0 < result }
+    ensures few { result ≤ 3 }
+{
+    if seed % 2 == 0 { 2 } else { 3 }
+}
+
+/// A number up to 4 as a word.
+fn word_of(number: u64) -> &'static str {
+    match number {
         0 => "0",
         1 => "1",
         2 => "2",
         3 => "3",
         _ => "4",
-    };
-    Ok((text.into_bytes(), bound))
+    }
+}
+
+/// The text of a circuit by a seed, on two qubits with at most four T gates, or on three with at most three; and how many it
+/// has, as a word.
+pub fn circuit(alloc: Global, seed: u64) -> Result<(Vec<u8>, &'static str), AllocError> {
+    let qubits = qubits_by(seed);
+    let count = mixed(seed, 0) % (7 - qubits);
+    let mut text = format!(in alloc; "OPENQASM 2.0;\nqreg q[{qubits}];\n")?;
+    for number in 0..count {
+        push_layer(&mut text, qubits, seed, number)?;
+    }
+    push_clifford(&mut text, qubits, mixed(seed, count))?;
+    Ok((text.into_bytes(), word_of(count)))
 }

@@ -13,8 +13,8 @@ returns-clause-one c = one_outcome
       refusal = c.one_reading.ensures.refusal;
       small = λ text x h. record { some = c.read_circuits_are_small.ensures.some text x h; few = c.read_circuits_are_small.ensures.few text x h; fit = c.read_circuits_are_small.ensures.fit text x h };
       itself = λ (x : Gates) (small : IsSmallCircuit x).
-        let channel = c.circuits_have_one_channel.ensures.exists x.qubits small.some small.few x.gates small.fit in
-        (c.one_channel_where_same.ensures x.qubits small.some small.few x.gates x.gates small.fit small.fit (built x.qubits (steps_of x.gates)) (built x.qubits (steps_of x.gates)) channel channel).0 (λ row column low below. refl);
+          let channel = c.circuits_have_one_channel.ensures.exists x.qubits small.some small.few x.gates small.fit in
+          (c.one_channel_where_same.ensures x.qubits small.some small.few x.gates x.gates small.fit small.fit (built x.qubits (steps_of x.gates)) (built x.qubits (steps_of x.gates)) channel channel).0 (λ row column low below. refl);
     }
     c.printed_once.ensures
 

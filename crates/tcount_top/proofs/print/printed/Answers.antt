@@ -66,20 +66,20 @@ returns c =
     let of_left : IsBuiltOf n (steps_of rest) (scaled left) = subst (λ (k : ℕ). IsBuiltOf k (steps_of rest) (scaled left)) c.in_ok-left.ensures.qubits c.in_ok-circuit.ensures.built in
     let few : length w ≤ 18 = omega (arith, c.requires.short, most_nine n) in
     both_ok c.text.result _ _ _ c.text.ensures.shown c.text.ensures.letters (λ bytes shows is_word c' small same built.
-      let made : IsMade n (scaled m) w bytes.items = record {
-        least = c.requires.least;
-        few = few;
-        left = left;
-        is_left = is_left;
-        rest = rest;
-        is_rest = c.in_ok-circuit.ensures.gates;
-        fits = fits;
-        no_t = c.in_ok-circuit.ensures.no_t;
-        short = c.in_ok-circuit.ensures.short;
-        of_left = of_left;
-        blocks = short;
-        letters = subst (λ (t : List (List ℕ)). IsWord n (length w) t) texts
-        (subst (λ (k : ℕ). IsWord n k (letter_texts c.deref-4.result.now)) long_letters (subst (λ (k : ℕ). IsWord k (length c.deref-4.result.now) (letter_texts c.deref-4.result.now)) qubits is_word));
-        shows = shows ∙ is;
-      } in
-      made_shows c.words_stand_behind_rests.ensures.least c.printed_texts_read_back.ensures.word c' small (scaled m) built w bytes.items (subst (λ (k : ℕ). IsMade k (scaled m) w bytes.items) (sym same) made))
+    let made : IsMade n (scaled m) w bytes.items = record {
+      least = c.requires.least;
+      few = few;
+      left = left;
+      is_left = is_left;
+      rest = rest;
+      is_rest = c.in_ok-circuit.ensures.gates;
+      fits = fits;
+      no_t = c.in_ok-circuit.ensures.no_t;
+      short = c.in_ok-circuit.ensures.short;
+      of_left = of_left;
+      blocks = short;
+      letters = subst (λ (t : List (List ℕ)). IsWord n (length w) t) texts
+          (subst (λ (k : ℕ). IsWord n k (letter_texts c.deref-4.result.now)) long_letters (subst (λ (k : ℕ). IsWord k (length c.deref-4.result.now) (letter_texts c.deref-4.result.now)) qubits is_word));
+      shows = shows ∙ is;
+    } in
+    made_shows c.words_stand_behind_rests.ensures.least c.printed_texts_read_back.ensures.word c' small (scaled m) built w bytes.items (subst (λ (k : ℕ). IsMade k (scaled m) w bytes.items) (sym same) made))

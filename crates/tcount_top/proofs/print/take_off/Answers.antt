@@ -24,5 +24,5 @@ loop-letter-preserved c =
       qubits = c.left_rotation_inverse.ensures.qubits ∙ c.loop-letter.invariant.qubits;
       grown = omega (arith, c.left_rotation_inverse.ensures.grown, c.loop-letter.invariant.grown);
       table = subst (λ (l : List ℕ). SameTable n (scaled new) (removed n m l)) (sym (take_letter letters i p.code (code_at c.args.letters.now i p c.loop-letter-test.true c.letter-item.is)))
-      (c.letters_come_off.ensures.step n m (scaled old) (scaled new) (take i letters) p.code c.loop-letter.invariant.table c.left_rotation_inverse.ensures.exponent agrees);
+          (c.letters_come_off.ensures.step n m (scaled old) (scaled new) (take i letters) p.code c.loop-letter.invariant.table c.left_rotation_inverse.ensures.exponent agrees);
     }
