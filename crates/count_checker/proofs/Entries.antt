@@ -1,8 +1,8 @@
 -- Entries brought to one power of √2.
-use Rattle.std.proofs.Common.{◌≡◌, ℕ, zero, suc, ◌+◌, ◌-◌, ◌*◌, ◌^◌, ◌<◌, ◌≤◌, ◌↔◌, refl, ap, sym, subst, ◌∙◌, arith, add-one, mul_comm, List, [], ◌∷◌, length, slice_index_or, pos, ℤ}
+use Rattle.std.proofs.Common.{◌≡◌, ℕ, suc, ◌+◌, ◌-◌, ◌*◌, ◌^◌, ◌<◌, ◌≤◌, ◌↔◌, ap, sym, subst, ◌∙◌, arith, add-one, mul_comm, List, [], ◌∷◌, length, slice_index_or, pos, ℤ}
 use Rattle.std.proofs.Math.Nat.{pow-suc, pow-le-pow_right}
 use Rattle.ring_laws.specs.Ring.{power}
-use Rattle.ring_laws.specs.Cyclotomic.{Zω, number, cyclotomics, times, ω, root2}
+use Rattle.ring_laws.specs.Cyclotomic.{Zω, number, cyclotomics, times, root2}
 use Rattle.ring_laws.proofs.Ring.{power-add, power-zero, power-suc}
 use Rattle.ring_laws.proofs.Cyclotomic.{cyclotomics_laws, times_assoc, one-times, cancel_root2}
 use Rattle.tc_ring.specs.Bounds.{IsWithin}

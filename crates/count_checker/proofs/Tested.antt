@@ -1,5 +1,5 @@
 -- Matrices of circuits in place of the circuits.
-use Rattle.std.proofs.Common.{◌≡◌, ℕ, ◌^◌, ◌<◌, ◌↔◌, refl, ap, sym, subst, ◌∙◌, List}
+use Rattle.std.proofs.Common.{◌≡◌, ℕ, ◌^◌, ◌<◌, ◌↔◌, sym, subst, ◌∙◌, List}
 use Rattle.ring_laws.specs.Ring.{power}
 use Rattle.ring_laws.specs.Matrix.{Agree}
 use Rattle.ring_laws.specs.Cyclotomic.{cyclotomics, times, ω, root2}

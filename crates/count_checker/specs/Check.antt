@@ -1,5 +1,5 @@
 -- When two circuits are the same, and when there are too many h gates to compare them.
--- Sameness is that of Nielsen and Chuang, chapter 2: up to global phase. The limit is this project's own.
+-- Source: Nielsen and Chuang, section 2.2.7, on global phases. The limit is this project's own.
 use Rattle.std.specs.Prelude.{◌≡◌, ◌⊎◌, ℕ, ◌<◌, ◌≤◌}
 use Rattle.ring_laws.specs.Ring.{power}
 use Rattle.ring_laws.specs.Cyclotomic.{cyclotomics, times, ω, root2}

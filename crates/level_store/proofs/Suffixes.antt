@@ -1,11 +1,10 @@
 -- When two words are the same, and what a word at hand is to a hand.
-use Rattle.std.proofs.Common.{◌≡◌, ℕ, ◌^◌, Bool, true, false, ◌&&◌, not, nat_eq, true≢false, List, length, refl, ap, sym, ◌∙◌, subst}
+use Rattle.std.proofs.Common.{◌≡◌, ◌^◌, Bool, true, false, ◌&&◌, not, nat_eq, true≢false, length, refl, sym, ◌∙◌}
 use Rattle.std.proofs.lemmas.Bool.{eqb-true}
 use Rattle.coset_label.specs.Packing.{digits}
 use Rattle.coset_label.specs.Words.{RotationWord, IsShortWord, packed}
 use Rattle.coset_label.proofs.Digits.{digits_packed}
 use Rattle.coset_label.proofs.PackedWords.{digits_below}
-
 
 both : (a b : Bool) → (a && b) ≡ true → (a ≡ true) × (b ≡ true)
 both true b e = (refl, e)

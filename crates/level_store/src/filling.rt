@@ -1,5 +1,5 @@
 // A table filled with the candidates of the last level.
-ghost use Rattle.std.specs.Prelude.{◌≡◌, ◌≢◌, ℕ, ◌+◌, ◌^◌, ◌<◌, ◌≤◌, ◌∷◌, IfOk, length};
+ghost use Rattle.std.specs.Prelude.{◌≡◌, ◌≢◌, ◌+◌, ◌^◌, ◌<◌, ◌≤◌, ◌∷◌, IfOk, length};
 ghost use Rattle.coset_label.specs.Words.{most_letters};
 ghost use Rattle.coset_table.specs.Ends.{counts_in};
 ghost use Rattle.level_laws.specs.Levels.{candidate_at};

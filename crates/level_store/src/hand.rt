@@ -1,6 +1,5 @@
 // What a worker fills a table with.
-ghost use Rattle.std.specs.Prelude.{◌≡◌, ◌≢◌, ℕ, ◌<◌, ◌≤◌, ◌∷◌, List, All, IfOk, length, map};
-ghost use Rattle.channel_rep.specs.Cells.{scaled};
+ghost use Rattle.std.specs.Prelude.{◌≡◌, ◌≢◌, ◌<◌, ◌≤◌, ◌∷◌, All, IfOk, map};
 ghost use Rattle.coset_label.specs.Labels.{IsLabelOfWord};
 ghost use Rattle.coset_label.specs.Words.{IsShortWord};
 ghost use Rattle.level_store.specs.Hands.{IsSuffix, IsHand};

@@ -5,3 +5,4 @@ pub mod Outcomes
 pub mod Answering
 pub mod Once
 pub mod OneOutcome
+pub mod OneAnswer

@@ -1,5 +1,5 @@
 -- What is printed is a function of the channel: one least word, and one rest of what is left without it.
-use Rattle.std.proofs.Common.{◌≡◌, ℕ, ◌+◌, ◌*◌, ◌/◌, ◌%◌, ◌^◌, ◌<◌, ◌≤◌, false, List, [], ◌∷◌, ◌++◌, length, slice_index_or, refl, ap, sym, ◌∙◌, subst, inl, inr, arith}
+use Rattle.std.proofs.Common.{◌≡◌, ℕ, ◌+◌, ◌*◌, ◌/◌, ◌%◌, ◌^◌, ◌<◌, false, List, [], ◌∷◌, ◌++◌, length, refl, ap, sym, ◌∙◌, subst, inl, inr, arith}
 use Rattle.std.proofs.lemmas.Bool.{cases_lt}
 use Rattle.std.proofs.lemmas.List.{get_or_past}
 use Rattle.std.proofs.lemmas.Nat.{div-add-mod'}
@@ -13,7 +13,7 @@ use Rattle.tc_circuit.specs.Circuit.{Gates, IsSmallCircuit}
 use Rattle.tc_circuit.specs.Model.{Same}
 use Rattle.tc_circuit.specs.declared.circuit.Gate.{Gate}
 use Rattle.channel_rep.specs.Cells.{ChannelGrid, scaled, table_of, entries, cell_of, no_cell}
-use Rattle.channel_rep.specs.Tables.{SurdTable, ScaledTable, SameTable, IsBuiltOf, IsCircuitChannel, built, signed, stepped, by_inverse_rotation}
+use Rattle.channel_rep.specs.Tables.{SurdTable, ScaledTable, SameTable, IsCircuitChannel, built, signed, stepped, by_inverse_rotation}
 use Rattle.channel_rep.proofs.Built.{same_table_sym, same_table_trans}
 use Rattle.coset_label.specs.Cosets.{SameCoset, HasColumnsOf}
 use Rattle.coset_label.specs.Laws.{TablesAreClasses}

@@ -1,17 +1,15 @@
 -- Words and a text have one outcome.
-use Rattle.std.proofs.Common.{◌≡◌, ◌⊎◌, ℕ, ◌<◌, ◌≤◌, List, length, refl, ap, sym, ◌∙◌, subst, arith}
+use Rattle.std.proofs.Common.{◌≡◌, ℕ, ◌<◌, ◌≤◌, List, refl, ap, sym, ◌∙◌, subst, arith}
 use Rattle.tc_circuit.specs.Circuit.{Gates, IsSmallCircuit}
-use Rattle.tc_circuit.specs.Model.{Same, IsLeastTCount, t_count_of}
+use Rattle.tc_circuit.specs.Model.{Same, IsLeastTCount}
 use Rattle.qasm_reader.specs.Read.{Reads, Refused as IsRefused}
 use Rattle.tcount_top.specs.declared.top.Status.{Status}
-use Rattle.tcount_top.specs.declared.top.Status.TheVariants.{Found, Above, Refused}
 use Rattle.tcount_top.specs.declared.command.Command.{Command}
 use Rattle.tcount_top.specs.declared.command.Command.TheVariants.{Synth, Levels}
-use Rattle.tcount_top.specs.Words.{Spell}
 use Rattle.tcount_top.specs.Lines.{refusal_line, limit_line}
 use Rattle.tcount_top.specs.Printed.{IsPrinted}
 use Rattle.tcount_top.specs.Laws.{OneOutcome, PrintedOnce}
-use Rattle.tcount_top.specs.Out.{Out, CommandOut, SynthOut, ShowsLike, longest, most_bound, usage, command, too_long, refused, past_limit, found, above}
+use Rattle.tcount_top.specs.Out.{CommandOut, SynthOut, ShowsLike, most_bound, usage, command, too_long, refused, past_limit, found, above}
 use Rattle.tcount_top.proofs.Words.{one_command}
 
 -- the laws of the reader
@@ -23,13 +21,13 @@ pub record Reading : Type 0 where
   pub itself : (c : Gates) → IsSmallCircuit c → Same c.qubits c.gates c.gates
 
 -- a circuit has one least T-count
-least_unique : (c : Gates) (t u : ℕ) → IsLeastTCount c.qubits c.gates t → IsLeastTCount c.qubits c.gates u → t ≡ u
+pub least_unique : (c : Gates) (t u : ℕ) → IsLeastTCount c.qubits c.gates t → IsLeastTCount c.qubits c.gates u → t ≡ u
 least_unique c t u a b =
     let x = a.reached in
     let y = b.reached in omega (arith, a.least y.0 y.1 y.2, b.least x.0 x.1 x.2, x.3, y.3)
 
 -- what shows a circuit is its print
-printed_of : (c : Gates) (t : ℕ) (bytes : List ℕ) → ShowsLike c t bytes → IsPrinted c bytes
+pub printed_of : (c : Gates) (t : ℕ) (bytes : List ℕ) → ShowsLike c t bytes → IsPrinted c bytes
 printed_of c t bytes h = record { word = h.word; gates = h.gates; is = h.rest; shows = h.shows }
 
 module _ (reading : Reading) (once : PrintedOnce) (bound : ℕ) (text : List ℕ) where

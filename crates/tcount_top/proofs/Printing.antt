@@ -1,5 +1,5 @@
 -- The printed circuit: the rest that is left without the least word, and the word's blocks behind it.
-use Rattle.std.proofs.Common.{◌≡◌, ℕ, ◌+◌, ◌*◌, ◌<◌, ◌≤◌, List, ◌++◌, length, Result, Ok, Err, IfOk, OnOk, ap, sym, ◌∙◌, subst, arith, length-append}
+use Rattle.std.proofs.Common.{◌≡◌, ℕ, ◌*◌, ◌<◌, ◌≤◌, List, ◌++◌, length, Result, Ok, Err, IfOk, OnOk, ap, sym, subst, arith, length-append}
 use Rattle.tc_circuit.specs.Circuit.{Gates, IsSmallCircuit}
 use Rattle.tc_circuit.specs.Model.{IsCircuit, t_count_of}
 use Rattle.tc_circuit.specs.declared.circuit.Gate.{Gate}
@@ -14,7 +14,7 @@ use Rattle.clifford_rest.specs.Rest.{rest_of}
 use Rattle.level_laws.specs.Levels.{IsLeastWord, removed}
 use Rattle.level_laws.specs.Laws.{RestsAreCircuits}
 use Rattle.meet_laws.specs.Laws.{RestsArePermutations, LeastWordsMakeCircuits}
-use Rattle.tcount_top.specs.Printed.{IsLeft, IsRestThenWord, word_texts}
+use Rattle.tcount_top.specs.Printed.{IsLeft, word_texts}
 use Rattle.tcount_top.specs.Out.{ShowsLike}
 
 -- ---- what is left without the least word

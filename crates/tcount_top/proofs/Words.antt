@@ -1,5 +1,5 @@
 -- Numbers as words, and the commands that words are.
-use Rattle.std.proofs.Common.{◌≡◌, ◌≢◌, ◌⊎◌, ℕ, zero, suc, ◌+◌, ◌^◌, ◌<◌, ◌≤◌, List, [], ◌∷◌, length, get_or, slice_index_or, Option, Some, None, Result, Ok, Err, IfSome, IfNone, refl, ap, sym, subst, ◌∙◌, inl, inr, arith}
+use Rattle.std.proofs.Common.{◌≡◌, ◌⊎◌, ℕ, zero, suc, ◌^◌, ◌<◌, ◌≤◌, List, [], ◌∷◌, length, get_or, slice_index_or, Result, Ok, Err, IfSome, IfNone, refl, ap, sym, subst, ◌∙◌, inl, inr, arith}
 use Rattle.std.specs.Prelude.{codes, decimal}
 use Rattle.std.specs.Result.{result_ok}
 use Rattle.std.specs.Int.{IsInRange}
@@ -11,7 +11,7 @@ use Rattle.std.proofs.lemmas.Fmt.{parse-decimal, length-decimal-le, first_decima
 use Rattle.coset_label.specs.Words.{most_letters}
 use Rattle.tcount_top.specs.declared.command.Command.{Command}
 use Rattle.tcount_top.specs.declared.command.Command.TheVariants.{Synth, Levels}
-use Rattle.tcount_top.specs.Words.{IsNumber, AreWorkers, IsSynth, IsLevels, Spell, IsCommand}
+use Rattle.tcount_top.specs.Words.{IsNumber, IsSynth, IsLevels, Spell, IsCommand}
 
 -- ---- numbers
 -- each byte is a digit

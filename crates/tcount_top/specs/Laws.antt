@@ -1,12 +1,12 @@
 -- What the laws of this crate say.
-use Rattle.std.specs.Prelude.{◌≡◌, ℕ, ◌<◌, ◌≤◌, List}
+use Rattle.std.specs.Prelude.{◌≡◌, ℕ, ◌≤◌, List, length}
 use Rattle.tc_circuit.specs.Circuit.{Gates, IsSmallCircuit}
 use Rattle.tc_circuit.specs.Model.{Same, IsLeastTCount}
 use Rattle.qasm_reader.specs.Read.{Reads}
 use Rattle.tcount_top.specs.declared.top.Status.{Status}
 use Rattle.tcount_top.specs.declared.command.Command.{Command}
 use Rattle.tcount_top.specs.Words.{Spell}
-use Rattle.tcount_top.specs.Out.{Out}
+use Rattle.tcount_top.specs.Out.{Out, SynthOut, longest}
 use Rattle.tcount_top.specs.Printed.{IsPrinted}
 
 -- words are at most one command
@@ -25,3 +25,8 @@ PrintedOnce = (c d : Gates) → IsSmallCircuit c → IsSmallCircuit d → c.qubi
 -- the circuit of a text has a least T-count
 abbrev pub LeastCountsExist : Type 0
 LeastCountsExist = (text : List ℕ) (c : Gates) → Reads text c → (t : ℕ) × IsLeastTCount c.qubits c.gates t
+
+-- texts whose circuits are the same up to global phase, and so have one channel, have for one bound one status and the same bytes
+abbrev pub OneAnswerForOneMatrix : Type 0
+OneAnswerForOneMatrix = (bound : ℕ) (x y : List ℕ) → length x ≤ longest → length y ≤ longest → (c d : Gates) → Reads x c → Reads y d → c.qubits ≡ d.qubits → Same c.qubits c.gates d.gates
+    → (s t : Status) (a b : List ℕ) → SynthOut bound x s a → SynthOut bound y t b → (s ≡ t) × (a ≡ b)

@@ -1,7 +1,7 @@
 //! What holds of the outcomes.
 //!
 //! Each of these functions does nothing. Its contract is the law, for a caller's proof to use.
-ghost use Rattle.tcount_top.specs.Laws.{OneCommand, OneOutcome, PrintedOnce, LeastCountsExist};
+ghost use Rattle.tcount_top.specs.Laws.{OneCommand, OneOutcome, PrintedOnce, LeastCountsExist, OneAnswerForOneMatrix};
 
 use coset_label::laws::tables_are_classes;
 use level_laws::laws::{cosets_have_least_words, letters_come_off};
@@ -34,6 +34,19 @@ pub fn printed_once()
 pub fn one_outcome()
     ensures one { OneOutcome }
     ensures counted { LeastCountsExist }
+{
+    circuits_have_one_channel();
+    one_channel_where_same();
+    one_reading();
+    read_circuits_are_small();
+    least_counts_are_lengths();
+    printed_once();
+}
+
+/// Texts whose circuits on as many qubits have one matrix up to global phase, and so one channel, have for each bound one
+/// status and the same bytes, however their gates differ.
+pub fn one_answer_for_one_matrix()
+    ensures { OneAnswerForOneMatrix }
 {
     circuits_have_one_channel();
     one_channel_where_same();

@@ -8,7 +8,7 @@ ghost use Rattle.coset_label.specs.Words.{most_letters};
 ghost use Rattle.tc_bridge.specs.Block.{block, word_gates};
 ghost use Rattle.tc_bridge.specs.Steps.{steps_of};
 ghost use Rattle.level_laws.specs.Levels.{IsLeastWord, removed};
-ghost use Rattle.meet_middle.specs.Spelled.{spelled};
+ghost use Rattle.meet_middle.specs.Halves.{spelled};
 ghost use Rattle.tcount_top.specs.Printed.{IsLeft, codes_of};
 ghost use Rattle.tcount_top.specs.Out.{ShowsLike};
 

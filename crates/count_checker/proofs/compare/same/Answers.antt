@@ -1,4 +1,4 @@
-use Rattle.std.proofs.Common.{◌≡◌, ◌∙◌, sym}
+use Rattle.std.proofs.Common.{◌∙◌, sym}
 use Rattle.count_checker.proofs.Tested.{test_of_circuits}
 use Rattle.count_checker.proofs.compare.same.Goals as goal
 

@@ -1,4 +1,4 @@
-use Rattle.std.proofs.Common.{◌≡◌, ◌∙◌, ap, sym, arith, length, rules, List, ℤ, slice_index_or, pos}
+use Rattle.std.proofs.Common.{◌≡◌, ◌∙◌, ap, sym, length, rules, List, ℤ, slice_index_or, pos}
 use Rattle.std.specs.Cmp.Rules.{signed_items}
 use Rattle.ring_laws.specs.Cyclotomic.{number}
 use Rattle.count_checker.proofs.Entries.{coordinates_same}

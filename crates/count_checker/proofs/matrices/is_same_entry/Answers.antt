@@ -1,6 +1,6 @@
-use Rattle.std.proofs.Common.{◌≡◌, ◌∙◌, ◌≤◌, ◌-◌, ap, sym, subst, arith}
+use Rattle.std.proofs.Common.{◌∙◌, ap, arith}
 use Rattle.ring_laws.specs.Ring.{power}
-use Rattle.ring_laws.specs.Cyclotomic.{Zω, cyclotomics, times, root2, ω}
+use Rattle.ring_laws.specs.Cyclotomic.{cyclotomics, times, ω}
 use Rattle.tc_ring.specs.Omega.{number_of}
 use Rattle.count_checker.proofs.Entries.{within_grid, within_start, within_at, tested_left, tested_right}
 use Rattle.count_checker.proofs.matrices.is_same_entry.Goals as goal

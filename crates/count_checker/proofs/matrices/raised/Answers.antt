@@ -1,6 +1,5 @@
-use Rattle.std.proofs.Common.{◌+◌, ◌-◌, ◌^◌, ◌∙◌, ap, sym, subst, arith}
+use Rattle.std.proofs.Common.{◌+◌, ◌-◌, ◌^◌, ◌∙◌, ap, arith}
 use Rattle.ring_laws.specs.Cyclotomic.{times, root2}
-use Rattle.tc_ring.specs.Bounds.{IsWithin}
 use Rattle.tc_ring.specs.Omega.{number_of}
 use Rattle.count_checker.proofs.Entries.{no_factor, one_factor, within_last, within_twice, within_zero}
 use Rattle.count_checker.proofs.matrices.raised.Goals as goal

@@ -1,4 +1,4 @@
-use Rattle.std.proofs.Common.{◌<◌, ◌+◌, ◌-◌, arith}
+use Rattle.std.proofs.Common.{arith}
 use Rattle.level_store.proofs.tests.all_grown.Goals as goal
 
 pub loop-alloc-smaller : goal.loop-alloc-smaller

@@ -2,7 +2,7 @@ use Rattle.std.proofs.Common.{◌≡◌, ◌≢◌, ◌∙◌, ◌++◌, ◌∷�
 use Rattle.std.proofs.lemmas.List.{map-append}
 use Rattle.std.proofs.lemmas.List.Elements.{All-push}
 use Rattle.pauli_basis.specs.Pauli.{PauliString}
-use Rattle.meet_middle.specs.Spelled.{spelled}
+use Rattle.meet_middle.specs.Halves.{spelled}
 use Rattle.tcount_top.specs.Printed.{codes_of}
 use Rattle.tcount_top.proofs.Letters.{take_letter}
 use Rattle.tcount_top.proofs.print.letters_of.Goals as goal

@@ -1,5 +1,5 @@
 use Rattle.std.proofs.Common.{◌≡◌, ◌≢◌, All, take}
-use Rattle.meet_middle.specs.Spelled.{spelled}
+use Rattle.meet_middle.specs.Halves.{spelled}
 use Rattle.tcount_top.specs.Printed.{codes_of}
 use Rattle.tcount_top.proofs.print.letters_of.Given as goal
 

@@ -10,7 +10,7 @@ use Rattle.tc_bridge.specs.Block.{word_gates}
 use Rattle.tc_bridge.specs.Steps.{steps_of}
 use Rattle.coset_label.specs.Words.{most_letters}
 use Rattle.circuit_writer.specs.Shown.{IsWord, shown, letter_texts}
-use Rattle.meet_middle.specs.Spelled.{spelled}
+use Rattle.meet_middle.specs.Halves.{spelled}
 use Rattle.tcount_top.specs.Printed.{IsLeft, codes_of, word_texts}
 use Rattle.tcount_top.specs.Out.{ShowsLike}
 use Rattle.tcount_top.proofs.Words.{most_nine}

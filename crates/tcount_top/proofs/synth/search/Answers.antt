@@ -3,7 +3,7 @@ use Rattle.tc_circuit.specs.Circuit.{Gates, IsSmallCircuit}
 use Rattle.channel_rep.specs.Cells.{ChannelGrid, scaled}
 use Rattle.channel_rep.specs.Tables.{IsCircuitChannel}
 use Rattle.level_laws.specs.Levels.{IsLeastWord, NoneBelow}
-use Rattle.meet_middle.specs.Spelled.{spelled}
+use Rattle.meet_middle.specs.Halves.{spelled}
 use Rattle.meet_middle.specs.Answers.{IsAnswer}
 use Rattle.meet_middle.specs.declared.answer.Answer.{Answer}
 use Rattle.tcount_top.proofs.Outcomes.{least_of_word, found_out, above_out}

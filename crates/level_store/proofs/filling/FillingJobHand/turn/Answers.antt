@@ -1,11 +1,8 @@
-use Rattle.std.proofs.Common.{◌≡◌, ◌∙◌, ℕ, List, ap, ◌++◌, ◌∷◌, [], sym, subst, true, false, length}
+use Rattle.std.proofs.Common.{◌≡◌, ◌∙◌, ap, ◌++◌, ◌∷◌, [], sym, subst, length}
 use Rattle.coset_label.specs.Labels.{IsLabelOfWord}
 use Rattle.coset_label.specs.Words.{RotationWord}
-use Rattle.level_laws.specs.Levels.{candidate_at}
-use Rattle.level_store.specs.Filling.{last_letters}
 use Rattle.level_store.specs.Hands.{IsSuffix}
-use Rattle.level_store.specs.Stored.{qubits_of_all}
-use Rattle.level_store.proofs.Tops.{turn_long, offers_new, offers_old}
+use Rattle.level_store.proofs.Tops.{turn_long, offers_new}
 use Rattle.level_store.proofs.filling.FillingJobHand.turn.Goals as goal
 
 pub offer-requires-clause-len : goal.offer-requires-clause-len

@@ -1,4 +1,4 @@
-use Rattle.std.proofs.Common.{rules, ◌≡◌, ℕ, ◌∙◌, ap, sym, subst}
+use Rattle.std.proofs.Common.{rules}
 use Rattle.level_store.specs.Filling.{height_of}
 use Rattle.level_store.specs.Stored.{qubits_of_all}
 use Rattle.level_store.proofs.Tops.{count_of_letters, made_room, made_letters}
