@@ -1,7 +1,7 @@
 -- The outcome for a text's circuit, from what the search found out.
-use Rattle.std.proofs.Common.{◌≡◌, ℕ, ◌+◌, ◌<◌, ◌≤◌, List, length, sym, subst, ap, refl, arith}
+use Rattle.std.proofs.Common.{◌≡◌, ℕ, ◌+◌, ◌<◌, ◌≤◌, List, length, sym, subst, refl, arith}
 use Rattle.tc_circuit.specs.Circuit.{Gates, IsSmallCircuit}
-use Rattle.tc_circuit.specs.Model.{IsCircuit, IsLeastTCount, t_count_of}
+use Rattle.tc_circuit.specs.Model.{IsLeastTCount, t_count_of}
 use Rattle.qasm_reader.specs.Read.{Reads, Refused as IsRefused}
 use Rattle.channel_rep.specs.Tables.{ScaledTable, IsBuiltOf}
 use Rattle.tc_bridge.specs.Steps.{steps_of}

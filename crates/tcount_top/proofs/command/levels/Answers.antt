@@ -1,4 +1,4 @@
-use Rattle.std.proofs.Common.{◌≡◌, ◌≤◌, ℕ, Option, Some, None, IfNone, sym, subst, ◌∙◌, arith}
+use Rattle.std.proofs.Common.{◌≡◌, ◌≤◌, ℕ, Option, Some, None, IfNone, sym, subst, arith}
 use Rattle.coset_label.specs.Words.{most_letters}
 use Rattle.tcount_top.proofs.Words.{one_number, four_words}
 use Rattle.tcount_top.proofs.command.levels.Goals as goal

@@ -1,4 +1,4 @@
-use Rattle.std.proofs.Common.{rules, ◌≡◌, ℕ, ◌<◌, ◌≤◌, [], ◌∷◌, IfSome, IfNone, get_or, length, List, true, inl, inr, sym, ap, subst, ◌∙◌, arith}
+use Rattle.std.proofs.Common.{rules, ◌≡◌, ℕ, ◌<◌, ◌≤◌, [], ◌∷◌, IfSome, IfNone, get_or, length, List, true, inl, inr, sym, subst, ◌∙◌, arith}
 use Rattle.std.proofs.lemmas.Fmt.{decimal_digit}
 use Rattle.tcount_top.specs.Words.{IsNumber}
 use Rattle.tcount_top.proofs.Words.{first_of_number, number_some, number_none}

@@ -1,18 +1,15 @@
 use Rattle.std.proofs.Common.{◌≡◌, ℕ, ◌*◌, ◌≤◌, ◌++◌, ◌∙◌, List, All, length, arith, sym, subst, ap}
 use Rattle.std.proofs.lemmas.List.{length-map}
 use Rattle.pauli_basis.specs.Pauli.{PauliString}
-use Rattle.tc_circuit.specs.Circuit.{Gates, IsSmallCircuit}
 use Rattle.tc_circuit.specs.Model.{IsCircuit}
 use Rattle.tc_circuit.specs.declared.circuit.Gate.{Gate}
 use Rattle.channel_rep.specs.Cells.{ChannelGrid, scaled}
 use Rattle.channel_rep.specs.Tables.{IsBuiltOf}
 use Rattle.tc_bridge.specs.Block.{word_gates}
 use Rattle.tc_bridge.specs.Steps.{steps_of}
-use Rattle.coset_label.specs.Words.{most_letters}
 use Rattle.circuit_writer.specs.Shown.{IsWord, shown, letter_texts}
 use Rattle.meet_middle.specs.Halves.{spelled}
 use Rattle.tcount_top.specs.Printed.{IsLeft, codes_of, word_texts}
-use Rattle.tcount_top.specs.Out.{ShowsLike}
 use Rattle.tcount_top.proofs.Words.{most_nine}
 use Rattle.tcount_top.proofs.Letters.{texts_are}
 use Rattle.tcount_top.proofs.Printing.{left_permutes, left_channel, IsMade, made_shows, both_ok}

@@ -1,4 +1,4 @@
-use Rattle.std.proofs.Common.{◌≡◌, ℕ, ◌^◌, List, take, true, sym, subst, ◌∙◌, arith}
+use Rattle.std.proofs.Common.{ℕ, ◌^◌, List, take, true, sym, subst, ◌∙◌, arith}
 use Rattle.ring_laws.specs.Matrix.{product, Agree}
 use Rattle.tc_ring.specs.Surds.{surds}
 use Rattle.pauli_basis.specs.Pauli.{PauliString}

@@ -1,4 +1,4 @@
-use Rattle.std.proofs.Common.{◌≡◌, ℕ, ◌*◌, ◌<◌, List, ap, subst, ◌∙◌}
+use Rattle.std.proofs.Common.{◌≡◌, ℕ, ◌*◌, ◌<◌, ap, subst, ◌∙◌}
 use Rattle.coset_label.specs.Words.{most_letters}
 use Rattle.tcount_top.specs.Lines.{limit_line}
 use Rattle.tcount_top.specs.Out.{most_bound}

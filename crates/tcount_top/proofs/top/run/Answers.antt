@@ -1,6 +1,5 @@
-use Rattle.std.proofs.Common.{◌≡◌, refl, ap, subst}
+use Rattle.std.proofs.Common.{refl, ap, subst}
 use Rattle.tcount_top.specs.declared.command.Command.{Command}
-use Rattle.tcount_top.specs.declared.command.Command.TheVariants.{Synth, Levels}
 use Rattle.tcount_top.specs.Words.{texts_of, Spell, IsSynth, IsLevels}
 use Rattle.tcount_top.specs.Lines.{usage_line}
 use Rattle.tcount_top.proofs.Answering.{usage_answers, levels_answers}

@@ -1,4 +1,4 @@
-use Rattle.std.proofs.Common.{◌≡◌, ℕ, List, sym, ap, subst, refl, Err}
+use Rattle.std.proofs.Common.{ℕ, List, sym, ap, subst, refl, Err}
 use Rattle.tcount_top.specs.declared.command.Command.TheVariants.{Synth}
 use Rattle.tcount_top.specs.Lines.{too_long_line}
 use Rattle.tcount_top.specs.Out.{SynthOut}
