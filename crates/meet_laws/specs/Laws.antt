@@ -9,6 +9,20 @@ use Rattle.tc_bridge.specs.Block.{word_gates}
 use Rattle.tc_bridge.specs.Steps.{steps_of}
 use Rattle.level_laws.specs.Levels.{IsInCoset, IsLeastWord, NoneBelow, removed, IsLevelWord, IsLevel, Meets, front_at}
 
+-- ---- channels as tables
+-- to have the same entries is an equivalence of tables
+pub record IsEquivalence (n : ℕ) : Type 0 where
+  pub reflexive : (a : ScaledTable) → SameTable n a a
+  pub symmetric : (a b : ScaledTable) → SameTable n a b → SameTable n b a
+  pub transitive : (a b c : ScaledTable) → SameTable n a b → SameTable n b c → SameTable n a c
+
+abbrev pub TablesCompare : Type 0
+TablesCompare = (n : ℕ) → IsEquivalence n
+
+-- a table that the steps of a circuit build is a circuit's channel
+abbrev pub BuiltTablesAreChannels : Type 0
+BuiltTablesAreChannels = (n : ℕ) (c : List Gate) → IsCircuit n c → (m : ScaledTable) → IsBuiltOf n (steps_of c) m → IsCircuitChannel n m
+
 -- ---- least words and least circuits
 -- each front and each back of a least word is the least word of its own coset
 abbrev pub PartsAreLeast : Type 0

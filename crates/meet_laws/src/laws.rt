@@ -1,7 +1,13 @@
 //! The facts on which the search in the middle rests.
 //!
 //! Each of these functions does nothing. Its contract is the law, for a caller's proof to use.
-ghost use Rattle.meet_laws.specs.Laws.{PartsAreLeast, LeastCountsExist, LeastCountsAreLengths, CountsPassBounds, WordsStandBehindRests, RestsArePermutations, LeastWordsMakeCircuits, EvenTotals, OddTotals};
+ghost use Rattle.meet_laws.specs.Laws.{TablesCompare, BuiltTablesAreChannels, PartsAreLeast, LeastCountsExist, LeastCountsAreLengths, CountsPassBounds, WordsStandBehindRests, RestsArePermutations, LeastWordsMakeCircuits, EvenTotals, OddTotals};
+
+/// Tables compare by their entries, whatever their powers of √2, and those that a circuit's steps build are circuits' channels.
+pub fn channels_compare()
+    ensures equal { TablesCompare }
+    ensures built { BuiltTablesAreChannels }
+{}
 
 /// Each front and each back of a least word is the least word of its own coset.
 pub fn parts_are_least()

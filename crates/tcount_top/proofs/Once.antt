@@ -14,19 +14,17 @@ use Rattle.tc_circuit.specs.Model.{Same}
 use Rattle.tc_circuit.specs.declared.circuit.Gate.{Gate}
 use Rattle.channel_rep.specs.Cells.{ChannelGrid, scaled, table_of, entries, cell_of, no_cell}
 use Rattle.channel_rep.specs.Tables.{SurdTable, ScaledTable, SameTable, IsCircuitChannel, built, signed, stepped, by_inverse_rotation}
-use Rattle.channel_rep.proofs.Built.{same_table_sym, same_table_trans}
 use Rattle.coset_label.specs.Cosets.{SameCoset, HasColumnsOf}
 use Rattle.coset_label.specs.Laws.{TablesAreClasses}
 use Rattle.tc_bridge.specs.Block.{as_gates, undone, word_gates}
 use Rattle.tc_bridge.specs.Laws.{CircuitsHaveChannels, OneChannelWhereSame}
 use Rattle.tc_bridge.specs.Steps.{steps_of}
-use Rattle.tc_bridge.proofs.CircuitChannels.{steps_fit}
 use Rattle.clifford_rest.specs.Rest.{sent_to, rest_of}
 use Rattle.clifford_rest.specs.Sweep.{undo_list}
 use Rattle.circuit_writer.specs.Shown.{shown}
 use Rattle.level_laws.specs.Levels.{IsInCoset, IsLeastWord, removed}
 use Rattle.level_laws.specs.Laws.{LeastWordsAreUnique, LettersComeOff}
-use Rattle.meet_laws.specs.Laws.{RestsArePermutations}
+use Rattle.meet_laws.specs.Laws.{TablesCompare, BuiltTablesAreChannels, RestsArePermutations}
 use Rattle.tcount_top.specs.Printed.{IsLeft, IsRestThenWord, IsPrinted, word_texts}
 use Rattle.tcount_top.proofs.Printing.{left_permutes}
 
@@ -36,22 +34,22 @@ columns_same : (n : ℕ) (a b : ScaledTable) → SameTable n a b → HasColumnsO
 unfolding signed
 columns_same n a b h = λ column l. (column, l, record { negative = false; cells = λ row below. h row column below l })
 
-coset_of_same : (n : ℕ) (a b : ScaledTable) → SameTable n a b → SameCoset n a b
-coset_of_same n a b h = record { there = columns_same n a b h; back = columns_same n b a (same_table_sym n a b h) }
+coset_of_same : TablesCompare → (n : ℕ) (a b : ScaledTable) → SameTable n a b → SameCoset n a b
+coset_of_same tables n a b h = record { there = columns_same n a b h; back = columns_same n b a ((tables n).symmetric a b h) }
 
 -- so they have one least word
-least_of_same : TablesAreClasses → (n : ℕ) (a b : ScaledTable) → SameTable n a b → (w : List ℕ) → IsLeastWord n a w → IsLeastWord n b w
-least_of_same classes n a b h w least = record {
+least_of_same : TablesCompare → TablesAreClasses → (n : ℕ) (a b : ScaledTable) → SameTable n a b → (w : List ℕ) → IsLeastWord n a w → IsLeastWord n b w
+least_of_same tables classes n a b h w least = record {
   member = to a b h w least.member;
   shortest = λ v hv. least.shortest v (to b a back v hv);
   first = λ v hv long earlier. least.first v (to b a back v hv) long earlier;
 }
   where
     back : SameTable n b a
-    back = same_table_sym n a b h
+    back = (tables n).symmetric a b h
 
     to : (c d : ScaledTable) → SameTable n c d → (v : List ℕ) → IsInCoset n c v → IsInCoset n d v
-    to c d same v is = record { word = is.word; coset = (classes n).transitive d c _ ((classes n).symmetric c d (coset_of_same n c d same)) is.coset }
+    to c d same v is = record { word = is.word; coset = (classes n).transitive d c _ ((classes n).symmetric c d (coset_of_same tables n c d same)) is.coset }
 
 -- and the same is left of them without a word
 left_of_same : LettersComeOff → (n : ℕ) (a b : ScaledTable) → SameTable n a b → (w : List ℕ) → SameTable n (removed n a w) (removed n b w)
@@ -87,14 +85,14 @@ same_cells size xs ys some e f h place = elim (cases_lt place (size * size)) [
 abbrev rest_from : ℕ → SurdTable → List Gate
 rest_from n t = as_gates (undone (undo_list n (sent_to n t) n))
 
-module _ (ring : RingLaws surds) (permutes : RestsArePermutations) (n : ℕ) (a b : ScaledTable) (ha : IsCircuitChannel n a) (hb : IsCircuitChannel n b) (same : SameTable n a b) (w : List ℕ) (wa : IsLeastWord n a w) (wb : IsLeastWord n b w)
+module _ (tables : TablesCompare) (ring : RingLaws surds) (permutes : RestsArePermutations) (n : ℕ) (a b : ScaledTable) (ha : IsCircuitChannel n a) (hb : IsCircuitChannel n b) (same : SameTable n a b) (w : List ℕ) (wa : IsLeastWord n a w) (wb : IsLeastWord n b w)
     (x y : ChannelGrid) (left_x : IsLeft n a w x) (left_y : IsLeft n b w y) (off : LettersComeOff) where
   -- what is left of tables of the same entries has one table
   same_entries : (row column : ℕ) → row < 4 ^ n → column < 4 ^ n → table_of x row column ≡ table_of y row column
   same_entries row column l m =
       same_entry ring _ _ y.exponent x.exponent (left_permutes n b hb w wb y left_y permutes).exponent (left_permutes n a ha w wa x left_x permutes).exponent
-      (same_table_trans n (scaled x) (removed n a w) (scaled y) left_x.table
-      (same_table_trans n (removed n a w) (removed n b w) (scaled y) (left_of_same off n a b same w) (same_table_sym n (scaled y) (removed n b w) left_y.table)) row column l m)
+      ((tables n).transitive (scaled x) (removed n a w) (scaled y) left_x.table
+      ((tables n).transitive (removed n a w) (removed n b w) (scaled y) (left_of_same off n a b same w) ((tables n).symmetric (scaled y) (removed n b w) left_y.table)) row column l m)
 
   of_n : (z : ChannelGrid) → z.qubits ≡ n → table_of z ≡ entries (4 ^ n) z.cells
   of_n z e = ap (λ (k : ℕ). entries (4 ^ k) z.cells) e
@@ -115,6 +113,8 @@ module _ (ring : RingLaws surds) (permutes : RestsArePermutations) (n : ℕ) (a 
 -- ---- one print
 -- the laws that it rests on
 pub record Laws : Type 0 where
+  pub tables : TablesCompare
+  pub built : BuiltTablesAreChannels
   pub ring : RingLaws surds
   pub classes : TablesAreClasses
   pub have : CircuitsHaveChannels
@@ -130,14 +130,14 @@ same_print laws n c d small_c small_d same v w x y hx hy =
     let one : SameTable n (built n (steps_of c)) (built n (steps_of d)) =
     (laws.one n small_c.some small_c.few c d small_c.fit small_d.fit (built n (steps_of c)) (built n (steps_of d)) (laws.have n small_c.some small_c.few c small_c.fit) (laws.have n small_d.some small_d.few d small_d.fit)).1 same in
     let tables : SameTable n hx.channel hy.channel =
-    same_table_trans n hx.channel (built n (steps_of c)) hy.channel hx.built
-    (same_table_trans n (built n (steps_of c)) (built n (steps_of d)) hy.channel one (same_table_sym n hy.channel (built n (steps_of d)) hy.built)) in
-    let words : v ≡ w = laws.unique n hy.channel v w (least_of_same laws.classes n hx.channel hy.channel tables v hx.least) hy.least in
-    let channel_x : IsCircuitChannel n hx.channel = (steps_of c, steps_fit n c small_c.fit, hx.built) in
-    let channel_y : IsCircuitChannel n hy.channel = (steps_of d, steps_fit n d small_d.fit, hy.built) in
+    (laws.tables n).transitive hx.channel (built n (steps_of c)) hy.channel hx.built
+    ((laws.tables n).transitive (built n (steps_of c)) (built n (steps_of d)) hy.channel one ((laws.tables n).symmetric hy.channel (built n (steps_of d)) hy.built)) in
+    let words : v ≡ w = laws.unique n hy.channel v w (least_of_same laws.tables laws.classes n hx.channel hy.channel tables v hx.least) hy.least in
+    let channel_x : IsCircuitChannel n hx.channel = laws.built n c small_c.fit hx.channel hx.built in
+    let channel_y : IsCircuitChannel n hy.channel = laws.built n d small_d.fit hy.channel hy.built in
     let least_y : IsLeastWord n hy.channel v = subst (IsLeastWord n hy.channel) (sym words) hy.least in
     let left_y : IsLeft n hy.channel v hy.left = subst (λ (u : List ℕ). IsLeft n hy.channel u hy.left) (sym words) hy.is_left in
-    let rests : rest_of hx.left ≡ rest_of hy.left = same_rest laws.ring laws.permutes n hx.channel hy.channel channel_x channel_y tables v hx.least least_y hx.left hy.left hx.is_left left_y laws.off in
+    let rests : rest_of hx.left ≡ rest_of hy.left = same_rest laws.tables laws.ring laws.permutes n hx.channel hy.channel channel_x channel_y tables v hx.least least_y hx.left hy.left hx.is_left left_y laws.off in
     let gates : x ≡ y = hx.gates ∙ ap (λ (l : List Gate). l ++ word_gates n v) rests ∙ ap (λ (u : List ℕ). rest_of hy.left ++ word_gates n u) words ∙ sym hy.gates in
     ap (λ (l : List Gate). shown n l (word_texts n v)) gates ∙ ap (λ (u : List ℕ). shown n y (word_texts n u)) words
 

@@ -7,13 +7,12 @@ use Rattle.qasm_reader.specs.Read.{Reads}
 use Rattle.circuit_writer.specs.Shown.{IsWord, shown}
 use Rattle.channel_rep.specs.Cells.{ChannelGrid, scaled, IsSignedPermutation}
 use Rattle.channel_rep.specs.Tables.{ScaledTable, SameTable, IsBuiltOf, IsCircuitChannel, built}
-use Rattle.channel_rep.proofs.Built.{same_table_sym, same_table_trans}
 use Rattle.tc_bridge.specs.Block.{word_gates}
 use Rattle.tc_bridge.specs.Steps.{steps_of}
 use Rattle.clifford_rest.specs.Rest.{rest_of}
 use Rattle.level_laws.specs.Levels.{IsLeastWord, removed}
 use Rattle.level_laws.specs.Laws.{RestsAreCircuits}
-use Rattle.meet_laws.specs.Laws.{RestsArePermutations, LeastWordsMakeCircuits}
+use Rattle.meet_laws.specs.Laws.{TablesCompare, RestsArePermutations, LeastWordsMakeCircuits}
 use Rattle.tcount_top.specs.Printed.{IsLeft, word_texts}
 use Rattle.tcount_top.specs.Out.{ShowsLike}
 
@@ -57,14 +56,14 @@ pub record IsMade (n : ℕ) (m : ScaledTable) (w : List ℕ) (bytes : List ℕ) 
   pub shows : bytes ≡ shown n (rest ++ word_gates n w) (word_texts n w)
 
 -- each circuit with the channel m has this print
-pub made_shows : LeastWordsMakeCircuits → PrintsRead → (c : Gates) → IsSmallCircuit c → (m : ScaledTable) → IsBuiltOf c.qubits (steps_of c.gates) m → (w bytes : List ℕ) → IsMade c.qubits m w bytes
+pub made_shows : TablesCompare → LeastWordsMakeCircuits → PrintsRead → (c : Gates) → IsSmallCircuit c → (m : ScaledTable) → IsBuiltOf c.qubits (steps_of c.gates) m → (w bytes : List ℕ) → IsMade c.qubits m w bytes
     → ShowsLike c (length w) bytes
-made_shows make prints c small m is w bytes h =
+made_shows tables make prints c small m is w bytes h =
     let n = c.qubits in
     let gates = h.rest ++ word_gates n w in
     let best =
     make n small.some small.few c.gates small.fit m is w h.least h.rest h.fits h.no_t
-    (same_table_trans n (built n (steps_of h.rest)) (scaled h.left) (removed n m w) (same_table_sym n (scaled h.left) (built n (steps_of h.rest)) h.of_left) h.is_left.table) in
+    ((tables n).transitive (built n (steps_of h.rest)) (scaled h.left) (removed n m w) ((tables n).symmetric (scaled h.left) (built n (steps_of h.rest)) h.of_left) h.is_left.table) in
     record {
       gates = gates;
       word = w;

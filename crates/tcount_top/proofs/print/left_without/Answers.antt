@@ -1,7 +1,6 @@
 use Rattle.std.proofs.Common.{◌≡◌, ℕ, ap, subst, ◌∙◌}
 use Rattle.channel_rep.specs.Cells.{ChannelGrid, scaled}
 use Rattle.channel_rep.specs.Tables.{SameTable}
-use Rattle.channel_rep.proofs.Built.{same_table_trans}
 use Rattle.level_laws.specs.Levels.{removed}
 use Rattle.tcount_top.specs.Printed.{codes_of}
 use Rattle.tcount_top.proofs.print.left_without.Goals as goal
@@ -21,5 +20,5 @@ returns c =
       qubits = c.reduce.ensures.qubits ∙ qubits;
       grid = c.qubits-grid.ensures.valid;
       reduced = c.reduce.ensures.reduced;
-      table = same_table_trans m.qubits (scaled left) (scaled off) (removed m.qubits (scaled m) letters) value table;
+      table = (c.channels_compare.ensures.equal m.qubits).transitive (scaled left) (scaled off) (removed m.qubits (scaled m) letters) value table;
     }
