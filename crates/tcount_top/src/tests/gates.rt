@@ -35,7 +35,7 @@ impl Meeting {
     // Raises one flag, looks for the other for a while, and lowers the own one again.
     fn enter(&self, mine: &AtomicU64, other: &AtomicU64) {
         mine.store(1, Ordering::SeqCst);
-        for _ in 0..10_000_000 {
+        for _ in 0..200_000_000 {
             if other.load(Ordering::SeqCst) == 1 {
                 self.met.store(1, Ordering::SeqCst);
                 break;
