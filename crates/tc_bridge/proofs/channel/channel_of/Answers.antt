@@ -18,7 +18,7 @@ loop-gate-preserved c =
     let gates = c.gates-gates.result.now in
     record {
       qubits = c.take.ensures.qubits ∙ inv.qubits;
-      grown = c.take.ensures.grown ∙ ap (λ k. k + cond (is_t (get_or gates c.loop-gate.gate-index (H 0))) 1 0) inv.grown ∙ sym (count_more gates c.loop-gate.gate-index c.loop-gate-test.true (H 0));
+      exponent = c.take.ensures.exponent ∙ ap (λ k. k + cond (is_t (get_or gates c.loop-gate.gate-index (H 0))) 1 0) inv.exponent ∙ sym (count_more gates c.loop-gate.gate-index c.loop-gate-test.true (H 0));
       taken = subst (λ (steps : List Step). HasTaken steps c.take.new.self) (sym (steps_more gates c.loop-gate.gate-index c.loop-gate-test.true (H 0))) (c.take.ensures.taken _ inv.taken);
     }
 
