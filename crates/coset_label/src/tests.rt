@@ -141,7 +141,7 @@ fn front_agrees(alloc: Global, w: Word, c: &Channel, letter: Pauli) -> Result<bo
     requires qubits { w.qubits ≡ 2 }
     requires room { length w.letters < 6 }
     requires channel { c.now.qubits ≡ 2 }
-    requires room { c.now.exponent < most_exponent }
+    requires low { c.now.exponent < most_exponent }
     requires letter { letter.qubits ≡ 2 }
     requires other { letter.code ≢ 0 }
 {
