@@ -15,3 +15,4 @@ pub mod OnePower
 pub mod Least
 pub mod Independent
 pub mod Lines
+pub mod Norms

@@ -75,7 +75,6 @@ pub fn least_word<H: Threads + Sync, G: Turnstile + Sync>(
     requires same { qubits_of_all levels.old ≡ target.now.qubits }
     requires circuit { IsCircuitChannel target.now.qubits (scaled target.now) }
     requires reduced { IsReduced target.now }
-    requires grown { target.now.grown ≤ 44 }
     requires bound { bound ≤ 2 * most_letters target.now.qubits }
     requires some { 1 ≤ workers }
     requires few { workers ≤ 8 }

@@ -9,6 +9,7 @@ use Rattle.level_laws.specs.Levels.{StandsIn, removed}
 use Rattle.level_store.specs.Stored.{Finds}
 use Rattle.pauli_basis.specs.Pauli.{PauliString}
 use Rattle.meet_middle.specs.Halves.{middle_letters}
+use Rattle.meet_middle.proofs.Removing.{nine_at_most}
 use Rattle.meet_middle.proofs.Resting.{finds_of_same, rest_circuit, letter_off, past_letter}
 use Rattle.meet_middle.proofs.probe.Probe.meet.Goals as goal
 
@@ -23,6 +24,10 @@ returns-then-exponent-half-clause-finds g c =
     let good = subst (λ (o : Option PauliString). IfSome o (λ p. (p.qubits ≡ n) × (p.code < 4 ^ n) × (p.code ≢ 0))) c.in-Some.is c.requires.middle in
     let there = subst (λ (o : Option PauliString). StandsIn n c.args.half (removed n target (word ++ middle_letters o))) c.in-Some.is found in
     past_letter n c.requires.stored.some c.requires.stored.few (scaled kept) least c.args.half c.in-Some.letter.code (good.1, good.2) l target word same there
+
+pub left_rotation_inverse-requires-clause-room : goal.left_rotation_inverse-requires-clause-room
+left_rotation_inverse-requires-clause-room g c =
+    omega (arith, c.if-exponent-half.false, c.exponent.ensures.value, c.requires.stored.short, nine_at_most g.row.N, ap (λ (m : ChannelGrid). m.exponent) c.copy_from.ensures)
 
 pub find_rest-requires-clause-circuit : goal.find_rest-requires-clause-circuit
 find_rest-requires-clause-circuit g c =
