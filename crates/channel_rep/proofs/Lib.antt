@@ -15,3 +15,5 @@ pub mod OnePower
 pub mod Least
 pub mod Independent
 pub mod Lines
+pub mod Products
+pub mod Undone

@@ -1,0 +1,23 @@
+//! The facts on tables, whatever they are tables of.
+//!
+//! Each of these functions does nothing. Its contract is the law, for a caller's proof to use.
+ghost use Rattle.channel_rep.specs.Laws.{TablesCompare, TablesMultiply, StepsMultiply, RotationsUndo};
+
+// ---- tables and their products
+
+/// To have the same entries, whatever the powers of √2, is an equivalence of tables.
+pub fn tables_compare()
+    ensures { TablesCompare }
+{}
+
+/// Tables with their product are a monoid up to the same entries, and what one list of steps behind another builds is the
+/// product of what they build.
+pub fn tables_multiply()
+    ensures monoid { TablesMultiply }
+    ensures built { StepsMultiply }
+{}
+
+/// The tables of a rotation and of its inverse undo each other.
+pub fn rotations_undo()
+    ensures { RotationsUndo }
+{}
