@@ -1,18 +1,18 @@
 -- Lemmas for the crates above: a rotation and its inverse undo each other.
-use Rattle.std.proofs.Common.{◌≡◌, ◌≢◌, ℕ, ◌+◌, ◌^◌, ◌<◌, Bool, true, false, not, refl, ap, sym, ◌∙◌, inl, inr, arith}
+use Rattle.std.proofs.Common.{◌≡◌, ◌≢◌, ℕ, ◌^◌, ◌<◌, Bool, true, false, not, refl, ap, sym, ◌∙◌, inl, inr, arith}
 use Rattle.std.proofs.lemmas.Bool.{cases_Bool}
 use Rattle.std.proofs.lemmas.Int.{ints}
 use Rattle.ring_laws.specs.Matrix.{product, identity}
 use Rattle.ring_laws.proofs.Ring.{power-zero, power-one, one-mul}
 use Rattle.ring_laws.proofs.Sums.{product-identity}
-use Rattle.tc_ring.specs.Surds.{Surd, surds, surd, surd_integer, surd_plus, surd_times, surd_negative, root2_surd}
+use Rattle.tc_ring.specs.Surds.{Surd, surds, surd_integer, surd_plus, surd_times, surd_negative, root2_surd}
 use Rattle.tc_ring.proofs.Surds.{surds_laws, same_surd, root2_surd-times}
 use Rattle.pauli_basis.specs.Products.{product_code, commute, anti_sign}
 use Rattle.pauli_basis.proofs.Products.{product_code-lt, product_code-back, commute-back, anti_sign-back}
 use Rattle.channel_rep.specs.Tables.{ScaledTable, rotation_table, signed, turned_over, SameTable}
 use Rattle.channel_rep.specs.Products.{identity_table, table_product}
 use Rattle.channel_rep.specs.Rows.{rotated}
-use Rattle.channel_rep.proofs.Built.{root2_to, root2_to-add, same_table_sym, same_table_trans}
+use Rattle.channel_rep.proofs.Built.{root2_to-add, same_table_sym, same_table_trans}
 use Rattle.channel_rep.proofs.Independent.{commuting_row, mixed_row}
 use Rattle.channel_rep.proofs.Products.{tables_left, tables_assoc, identity-table}
 use Rattle.channel_rep.proofs.Rules.{rotation_rule}

@@ -1,6 +1,6 @@
 -- Two circuits' channels lie in one coset exactly where a Clifford operator stands between them, and a Clifford operator
 -- before a word moves behind a word as long.
-use Rattle.std.proofs.Common.{◌≡◌, ℕ, ◌+◌, ◌^◌, ◌<◌, ◌≤◌, List, [], ◌∷◌, ◌++◌, length, refl, ap, sym, ◌∙◌, subst, arith}
+use Rattle.std.proofs.Common.{◌≡◌, ℕ, ◌+◌, ◌^◌, ◌<◌, ◌≤◌, List, [], ◌∷◌, ◌++◌, length, refl, sym, ◌∙◌, subst, arith}
 use Rattle.std.specs.List.{AllByRecursion}
 use Rattle.ring_laws.specs.Matrix.{product, identity}
 use Rattle.ring_laws.proofs.Sums.{identity-product}
@@ -9,17 +9,16 @@ use Rattle.tc_ring.proofs.Surds.{surds_laws}
 use Rattle.tc_circuit.specs.Gate as circuit
 use Rattle.tc_circuit.specs.Model.{IsCircuit, t_count_of}
 use Rattle.tc_circuit.specs.declared.circuit.Gate.{Gate}
-use Rattle.channel_rep.specs.Conjugations.{conjugated_by}
 use Rattle.channel_rep.specs.Gates.{Fits, positive}
 use Rattle.channel_rep.specs.Products.{table_product, identity_table}
-use Rattle.channel_rep.specs.Tables.{SurdTable, ScaledTable, Step, IsStep, built, built_on, SameTable, IsCircuitChannel}
+use Rattle.channel_rep.specs.Tables.{SurdTable, ScaledTable, IsStep, built, built_on, SameTable, IsCircuitChannel}
 use Rattle.channel_rep.specs.Words.{IsWord}
 use Rattle.channel_rep.specs.declared.gate.ChannelGate.{ChannelGate}
 use Rattle.channel_rep.proofs.Built.{same_table_sym, same_table_trans}
 use Rattle.channel_rep.proofs.Conjugated.{conjugated_by-append}
 use Rattle.channel_rep.proofs.Independent.{circuit_independent}
 use Rattle.channel_rep.proofs.Products.{same_of, tables_right, tables_left, tables_assoc, identity-table, table-identity, built_append}
-use Rattle.coset_label.specs.Cosets.{SameCoset, IsSignedPermutationTable, DiffersByPermutation}
+use Rattle.coset_label.specs.Cosets.{SameCoset, IsSignedPermutationTable}
 use Rattle.coset_label.specs.Words.{word_steps, word_channel}
 use Rattle.coset_label.proofs.InFront.{coset_before, coset_after, product_coset, built_on_coset}
 use Rattle.coset_label.proofs.OneCoset.{same_coset_trans}

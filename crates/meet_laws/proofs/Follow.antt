@@ -1,28 +1,22 @@
 -- Words before others: where one is exchanged for another of its coset, as many letters as before can follow.
-use Rattle.std.proofs.Common.{◌≡◌, ℕ, ◌<◌, ◌≤◌, List, ◌++◌, length, arith}
-use Rattle.tc_circuit.specs.Gate as circuit
-use Rattle.channel_rep.specs.Tables.{ScaledTable, built_on, built, SameTable, IsCircuitChannel}
+use Rattle.std.proofs.Common.{◌≡◌, ℕ, ◌<◌, ◌≤◌, List, ◌++◌, length}
+use Rattle.channel_rep.specs.Tables.{built_on, SameTable}
 use Rattle.channel_rep.specs.Words.{IsWord}
 use Rattle.channel_rep.proofs.Built.{same_table_sym, same_table_trans}
-use Rattle.channel_rep.specs.Products.{table_product, identity_table}
-use Rattle.channel_rep.proofs.Products.{tables_right, tables_left, tables_assoc, table-identity}
-use Rattle.coset_label.specs.Cosets.{SameCoset, SameCosetWords}
+use Rattle.channel_rep.specs.Products.{table_product}
+use Rattle.channel_rep.proofs.Products.{tables_left, tables_assoc}
+use Rattle.coset_label.specs.Cosets.{SameCosetWords}
 use Rattle.coset_label.specs.Words.{word_channel}
-use Rattle.coset_label.proofs.InFront.{coset_before, coset_after, product_coset, built_on_coset}
-use Rattle.tc_bridge.specs.Block.{word_gates}
-use Rattle.tc_bridge.specs.Steps.{steps_of}
-use Rattle.tc_bridge.proofs.Conjugations.{all-append}
-use Rattle.tc_bridge.proofs.Counts.{t_count-append, word_count, word_circuit}
+use Rattle.coset_label.proofs.InFront.{coset_before, coset_after, product_coset}
 use Rattle.level_laws.specs.Levels.{undo}
 use Rattle.level_laws.proofs.Cosets.{word-append}
-use Rattle.level_laws.proofs.Inverses.{put_back, taken_off}
-use Rattle.level_laws.proofs.Circuits.{circuit_word, circuits_joined, word_built}
-use Rattle.level_laws.proofs.Follow.{off_circuit, word_is_circuit}
+use Rattle.level_laws.proofs.Inverses.{put_back}
+use Rattle.level_laws.proofs.Follow.{word_is_circuit}
 use Rattle.meet_laws.proofs.Cliffords.{HasClifford}
 use Rattle.meet_laws.proofs.Between.{clifford_behind, word_past}
 
 module _ (n : ℕ) (some : 0 < n) (few : n ≤ 3) where
-  -- ---- as many letters can follow
+  -- as many letters can follow
   pub follow : (a v x : List ℕ) → IsWord n a → IsWord n v → IsWord n x → SameCosetWords n a v
       → (y : List ℕ) × IsWord n y × (length y ≡ length x) × SameCosetWords n (a ++ x) (v ++ y)
   follow a v x ha hv hx same = from (clifford_behind n some few (word_channel n a) v hv (word_is_circuit n some few a ha) same)

@@ -8,7 +8,6 @@ use Rattle.ring_laws.proofs.Ring.{power-add}
 use Rattle.tc_circuit.specs.Bits.{has_bit}
 use Rattle.tc_circuit.specs.Gate.{diagonal_entry}
 use Rattle.tc_circuit.specs.Gate as circuit
-use Rattle.tc_circuit.specs.Model.{matrix_of, IsCircuit, t_count_of}
 use Rattle.tc_circuit.specs.declared.circuit.Gate.{Gate}
 use Rattle.tc_circuit.proofs.Gates.{diagonal_product}
 use Rattle.tc_bridge.specs.Block.{as_gates, opening, highest, conjugated_gates, undone}
