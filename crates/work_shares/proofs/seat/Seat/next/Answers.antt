@@ -34,7 +34,6 @@ returns-in-None-clause-own_end c = let took = c.in-None.ensures in took.stands.m
 pub returns-in-Some-clause-own_first : goal.returns-in-Some-clause-own_first
 returns-in-Some-clause-own_first c =
     let s = c.args.self.now in
-    let t = c.take.new.self in
     let is = c.block-block.ensures ∙ ap (λ (p : Place). block_at p.total p.size c.in-Some.number) c.in-Some.ensures.place in
     ⊎_elim (λ own. inl (subst (Contains (blocks_for s.cut.total s.cut.size s.workers s.worker)) (sym is) (contains-own s.cut.total s.cut.size s.workers s.worker c.in-Some.number own)))
     (λ over. inr (c.in-Some.ensures.stands.marked.over over)) c.in-Some.ensures.own
