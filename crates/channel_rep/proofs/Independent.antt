@@ -1,4 +1,5 @@
--- The columns of a circuit's channel are linearly independent, and so no two of them agree up to sign.
+-- Lemmas for the crates above: the columns of a circuit's channel are linearly independent, and so no two of them agree up
+-- to sign.
 use Rattle.std.proofs.Common.{◌≡◌, ◌≢◌, ℕ, ◌^◌, ◌<◌, ◌≤◌, Bool, true, false, not, List, [], ◌∷◌, refl, ap, sym, ◌∙◌, inl, inr, arith}
 use Rattle.std.specs.List.{AllByRecursion}
 use Rattle.std.proofs.lemmas.Bool.{cond-true, cond-false, cases_eq, cases_Bool}

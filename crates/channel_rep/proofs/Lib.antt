@@ -16,3 +16,5 @@ pub mod Least
 pub mod Independent
 pub mod Lines
 pub mod Norms
+pub mod Products
+pub mod Undone

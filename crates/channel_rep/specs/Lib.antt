@@ -6,4 +6,5 @@ pub mod Cells
 pub mod Changes
 pub mod Conjugations
 pub mod Words
+pub mod Products
 pub mod Laws

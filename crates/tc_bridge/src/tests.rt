@@ -278,4 +278,6 @@ fn laws_are_called() {
     laws::unit_scalars_are_powers();
     laws::circuits_are_words();
     laws::words_have_circuits();
+    laws::rotations_have_channels();
+    laws::squares_are_cliffords();
 }

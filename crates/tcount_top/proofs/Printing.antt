@@ -7,13 +7,14 @@ use Rattle.tc_circuit.specs.declared.circuit.Gate.{Gate}
 use Rattle.qasm_reader.specs.Read.{Reads}
 use Rattle.circuit_writer.specs.Shown.{IsWord, shown}
 use Rattle.channel_rep.specs.Cells.{ChannelGrid, scaled, IsReduced, IsSignedPermutation}
+use Rattle.channel_rep.specs.Laws.{TablesCompare}
 use Rattle.channel_rep.specs.Tables.{ScaledTable, SameTable, IsBuiltOf, IsCircuitChannel, built}
 use Rattle.tc_bridge.specs.Block.{word_gates}
 use Rattle.tc_bridge.specs.Steps.{steps_of}
 use Rattle.clifford_rest.specs.Rest.{rest_of}
 use Rattle.level_laws.specs.Levels.{IsLeastWord, removed}
 use Rattle.level_laws.specs.Laws.{ExponentsBoundLengths, ReducedIsLeast, RestsAreCircuits}
-use Rattle.meet_laws.specs.Laws.{TablesCompare, RestsArePermutations, LeastWordsMakeCircuits}
+use Rattle.meet_laws.specs.Laws.{RestsArePermutations, LeastWordsMakeCircuits}
 use Rattle.tcount_top.specs.Printed.{IsLeft, word_texts}
 use Rattle.tcount_top.specs.Out.{ShowsLike}
 

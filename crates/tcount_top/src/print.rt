@@ -13,10 +13,11 @@ ghost use Rattle.tcount_top.specs.Printed.{IsLeft, codes_of};
 ghost use Rattle.tcount_top.specs.Out.{ShowsLike};
 
 use channel_rep::Channel;
+use channel_rep::laws::tables_compare;
 use circuit_writer::text;
 use clifford_rest::rest;
 use level_laws::laws::{exponents_bound_lengths, letters_come_off};
-use meet_laws::laws::{channels_compare, words_stand_behind_rests};
+use meet_laws::laws::words_stand_behind_rests;
 use meet_middle::Word2;
 use pauli_basis::Pauli;
 use printed_texts::printed_texts_read_back;
@@ -64,7 +65,7 @@ fn left_without(alloc: Global, channel: &Channel, letters: &[Pauli]) -> Result<C
     ensures { IfOk result (λ left. IsLeft channel.now.qubits (scaled channel.now) (codes_of letters.now) left) }
 {
     // Called for its contract: a law.
-    channels_compare();
+    tables_compare();
     let mut left = Channel::identity(alloc, channel.qubits())?;
     left.copy_from(channel);
     take_off(&mut left, letters);
@@ -123,7 +124,7 @@ pub fn printed(alloc: Global, target: &Channel, word: &Word2) -> Result<Vec<u8>,
         → ShowsLike c (length (spelled word.now.first.letters word.now.middle word.now.last.letters)) bytes.items) }
 {
     // Called for their contracts: laws.
-    channels_compare();
+    tables_compare();
     exponents_bound_lengths();
     letters_come_off();
     words_stand_behind_rests();

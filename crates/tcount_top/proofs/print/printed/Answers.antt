@@ -88,4 +88,4 @@ returns c =
           (subst (λ (k : ℕ). IsWord n k (letter_texts c.deref-4.result.now)) long_letters (subst (λ (k : ℕ). IsWord k (length c.deref-4.result.now) (letter_texts c.deref-4.result.now)) qubits is_word));
       shows = shows ∙ is;
     } in
-    made_shows c.channels_compare.ensures.equal c.words_stand_behind_rests.ensures.least c.printed_texts_read_back.ensures.word c' small (scaled m) built w bytes.items (subst (λ (k : ℕ). IsMade k (scaled m) w bytes.items) (sym same) made))
+    made_shows c.tables_compare.ensures c.words_stand_behind_rests.ensures.least c.printed_texts_read_back.ensures.word c' small (scaled m) built w bytes.items (subst (λ (k : ℕ). IsMade k (scaled m) w bytes.items) (sym same) made))
