@@ -3,7 +3,7 @@ use Rattle.std.proofs.Common.{◌≡◌, ◌≢◌, ℕ, ◌+◌, ◌^◌, ◌<�
 use Rattle.std.proofs.lemmas.Bool.{cases_Bool}
 use Rattle.ring_laws.proofs.Integers.{integers_laws}
 use Rattle.ring_laws.proofs.Reader.{ring, reads}
-use Rattle.tc_ring.specs.Surds.{Surd, surd_plus, surd_times, surd_negative, root2_surd}
+use Rattle.tc_ring.specs.Surds.{Surd, surd_plus, surd_times, one_surd, root2_surd}
 use Rattle.tc_ring.proofs.Surds.{surd_times-plus, same_surd}
 use Rattle.pauli_basis.specs.Products.{product_code, commute, anti_sign}
 use Rattle.pauli_basis.proofs.Products.{commute-swap}
@@ -11,7 +11,7 @@ use Rattle.channel_rep.specs.Tables.{SurdTable, ScaledTable, by_rotation, steppe
 use Rattle.channel_rep.specs.Rows.{rotated}
 use Rattle.channel_rep.specs.Words.{IsWord}
 use Rattle.channel_rep.proofs.Built.{root2_to, same_step}
-use Rattle.channel_rep.proofs.Signs.{times-signed}
+use Rattle.channel_rep.proofs.Signs.{signed_is, signed-signed, times-signed}
 use Rattle.coset_label.specs.Words.{word_channel}
 use Rattle.coset_label.specs.Cosets.{SameCosetWords}
 use Rattle.coset_label.proofs.OneCoset.{same_coset_of_same}
@@ -33,30 +33,22 @@ not_both false false = refl
 root2_sum : (s : Bool) (x y : Surd) → surd_times root2_surd (surd_plus x (signed s y)) ≡ surd_plus (surd_times root2_surd x) (signed s (surd_times root2_surd y))
 root2_sum s x y = surd_times-plus root2_surd x (signed s y) ∙ ap (surd_plus (surd_times root2_surd x)) (times-signed s root2_surd y)
 
--- sums of four
+-- a sign goes into a sum
+signed-sum : (s : Bool) (x y : Surd) → signed s (surd_plus x y) ≡ surd_plus (signed s x) (signed s y)
+signed-sum s x y = signed_is s (surd_plus x y) ∙ surd_times-plus (signed s one_surd) x y ∙ (λ i. surd_plus (sym (signed_is s x) i) (sym (signed_is s y) i))
+
+-- sums of four, in either order
+regrouped : (x y z w : Surd) → surd_plus (surd_plus x z) (surd_plus y w) ≡ surd_plus (surd_plus x y) (surd_plus z w)
+unfolding surd_plus
+regrouped x y z w =
+    same_surd (ring integers_laws (x.a ∷ y.a ∷ z.a ∷ w.a ∷ []) (search reads depth 30 parts 0 fits 10000) tt) (ring integers_laws (x.b ∷ y.b ∷ z.b ∷ w.b ∷ []) (search reads depth 30 parts 0 fits 10000) tt)
+
 four_terms : (s t u v : Bool) (x y z w : Surd) → turned_over t s ≡ turned_over v u
     → surd_plus (surd_plus x (signed u z)) (signed s (surd_plus y (signed t w))) ≡ surd_plus (surd_plus x (signed s y)) (signed u (surd_plus z (signed v w)))
-unfolding signed surd_plus surd_negative
-four_terms s t u v x y z w e = by s t u v e
-  where
-    by : (s t u v : Bool) → turned_over t s ≡ turned_over v u
-        → surd_plus (surd_plus x (signed u z)) (signed s (surd_plus y (signed t w))) ≡ surd_plus (surd_plus x (signed s y)) (signed u (surd_plus z (signed v w)))
-    by true true true true e = same_surd (ring integers_laws (x.a ∷ y.a ∷ z.a ∷ w.a ∷ []) (search reads depth 30 parts 0 fits 10000) tt) (ring integers_laws (x.b ∷ y.b ∷ z.b ∷ w.b ∷ []) (search reads depth 30 parts 0 fits 10000) tt)
-    by true true false false e = same_surd (ring integers_laws (x.a ∷ y.a ∷ z.a ∷ w.a ∷ []) (search reads depth 30 parts 0 fits 10000) tt) (ring integers_laws (x.b ∷ y.b ∷ z.b ∷ w.b ∷ []) (search reads depth 30 parts 0 fits 10000) tt)
-    by true false true false e = same_surd (ring integers_laws (x.a ∷ y.a ∷ z.a ∷ w.a ∷ []) (search reads depth 30 parts 0 fits 10000) tt) (ring integers_laws (x.b ∷ y.b ∷ z.b ∷ w.b ∷ []) (search reads depth 30 parts 0 fits 10000) tt)
-    by true false false true e = same_surd (ring integers_laws (x.a ∷ y.a ∷ z.a ∷ w.a ∷ []) (search reads depth 30 parts 0 fits 10000) tt) (ring integers_laws (x.b ∷ y.b ∷ z.b ∷ w.b ∷ []) (search reads depth 30 parts 0 fits 10000) tt)
-    by false true true false e = same_surd (ring integers_laws (x.a ∷ y.a ∷ z.a ∷ w.a ∷ []) (search reads depth 30 parts 0 fits 10000) tt) (ring integers_laws (x.b ∷ y.b ∷ z.b ∷ w.b ∷ []) (search reads depth 30 parts 0 fits 10000) tt)
-    by false true false true e = same_surd (ring integers_laws (x.a ∷ y.a ∷ z.a ∷ w.a ∷ []) (search reads depth 30 parts 0 fits 10000) tt) (ring integers_laws (x.b ∷ y.b ∷ z.b ∷ w.b ∷ []) (search reads depth 30 parts 0 fits 10000) tt)
-    by false false true true e = same_surd (ring integers_laws (x.a ∷ y.a ∷ z.a ∷ w.a ∷ []) (search reads depth 30 parts 0 fits 10000) tt) (ring integers_laws (x.b ∷ y.b ∷ z.b ∷ w.b ∷ []) (search reads depth 30 parts 0 fits 10000) tt)
-    by false false false false e = same_surd (ring integers_laws (x.a ∷ y.a ∷ z.a ∷ w.a ∷ []) (search reads depth 30 parts 0 fits 10000) tt) (ring integers_laws (x.b ∷ y.b ∷ z.b ∷ w.b ∷ []) (search reads depth 30 parts 0 fits 10000) tt)
-    by true true true false e = absurd cc
-    by true true false true e = absurd cc
-    by true false true true e = absurd cc
-    by true false false false e = absurd cc
-    by false true true true e = absurd cc
-    by false true false false e = absurd cc
-    by false false true false e = absurd cc
-    by false false false true e = absurd cc
+four_terms s t u v x y z w e =
+    ap (surd_plus (surd_plus x (signed u z))) (signed-sum s y (signed t w) ∙ ap (surd_plus (signed s y)) (signed-signed s t w ∙ ap (λ b. signed b w) e ∙ sym (signed-signed u v w)))
+    ∙ regrouped x (signed s y) (signed u z) (signed u (signed v w))
+    ∙ ap (surd_plus (surd_plus x (signed s y))) (sym (signed-sum u z (signed v w)))
 
 module _ (n p q : ℕ) (e : commute n p q ≡ true) where
   -- they may be made in either order
