@@ -1,5 +1,5 @@
 -- The tag of a letter before a word, from the cells of the word's own channel.
-use Rattle.std.proofs.Common.{◌≡◌, ℕ, zero, suc, ◌+◌, ◌-◌, ◌*◌, ◌/◌, ◌%◌, ◌^◌, ◌<◌, ◌≤◌, false, refl, ap, sym, ◌∙◌, subst, arith}
+use Rattle.std.proofs.Common.{◌≡◌, ℕ, zero, suc, ◌+◌, ◌-◌, ◌*◌, ◌/◌, ◌^◌, ◌<◌, ◌≤◌, false, refl, ap, sym, ◌∙◌, subst, arith}
 use Rattle.std.specs.Prelude.{ℤ, pos, ◌*ℤ◌}
 use Rattle.ring_laws.specs.Matrix.{sum, product}
 use Rattle.ring_laws.proofs.Sums.{sum_cong}
@@ -13,7 +13,7 @@ use Rattle.coset_label.specs.Labels.{Label, column_of, leads_negative, IsLabelOf
 use Rattle.coset_label.specs.Tags.{tag_of}
 use Rattle.label_laws.specs.Congruence.{IsCongruent}
 use Rattle.label_laws.specs.Folds.{weights, weighed, rotated_weights, root2_weights}
-use Rattle.label_laws.specs.Totals.{place_of, turned_whole, column_power, placed_folds, label_total, tag_from}
+use Rattle.label_laws.specs.Totals.{place_of, turned_whole, column_power, placed_folds, tag_from}
 use Rattle.label_laws.specs.Fronts.{front_weights, halved}
 use Rattle.label_laws.proofs.Congruences.{congruent_self, congruent-plus, congruent_part}
 use Rattle.label_laws.proofs.Folds.{weighed_rotation, whole_rotation, root2_out, weighed_once, weighed_twice}

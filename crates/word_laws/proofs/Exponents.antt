@@ -112,13 +112,16 @@ module _ (n p : ℕ) (lp : p < 4 ^ n) (d : p ≢ 0) (a b : ScaledTable) (same : 
 
     -- and if all its whole parts were even, the rotation could be divided once more
     even_once_more : b.exponent + count ≡ a.exponent + 1 → AllEven n b.table → IsMultiple n (count + 1) (rotated n false p a.table)
-    even_once_more e even = (λ row column. over_root2 (b.table row column), λ row column l h.
-        let next : count + 1 ≡ suc count = omega arith in
-        ap (λ k. surd_times (root2_to k) (over_root2 (b.table row column))) next
-        ∙ root2_to-suc count (over_root2 (b.table row column))
-        ∙ mul_left_comm surds_laws root2_surd (root2_to count) (over_root2 (b.table row column))
-        ∙ ap (surd_times (root2_to count)) (halves n b.table even row column l h)
-        ∙ table_is e row column l h)
+    even_once_more e even = (
+      λ row column. over_root2 (b.table row column),
+      λ row column l h.
+          let next : count + 1 ≡ suc count = omega arith in
+          ap (λ k. surd_times (root2_to k) (over_root2 (b.table row column))) next
+          ∙ root2_to-suc count (over_root2 (b.table row column))
+          ∙ mul_left_comm surds_laws root2_surd (root2_to count) (over_root2 (b.table row column))
+          ∙ ap (surd_times (root2_to count)) (halves n b.table even row column l h)
+          ∙ table_is e row column l h,
+    )
 
     exponent_is_least : HasLeastExponent n a → b.exponent ≡ a.exponent + 1 - count → HasLeastExponent n b
     exponent_is_least before e = elim (cases_eq b.exponent 0) [

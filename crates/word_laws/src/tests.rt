@@ -16,13 +16,15 @@ const IDENTITY: [u64; 16] = [
 const WHOLES_XI_IY: [u64; 16] = [
     0, 0, 0, 0, 0, 0, 0, 0, 0, 0xaa00, 0, 0xaa00, 0, 0xaa00, 0, 0xaa00,
 ];
+
 const PARTS_XI_IY: [u64; 16] = [
     0, 0xa, 0, 0xa, 0, 0xa0, 0, 0xa0, 0x1100, 0, 0x4400, 0, 0x1100, 0, 0x4400, 0,
 ];
 
 /// The whole parts of R(ZY)·R(IY)·R(ZI), whose parts of √2 are even.
 const WHOLES_ZY_IY_ZI: [u64; 16] = [
-    0, 0xa00a, 0, 0xa00a, 0x550, 0xaa0, 0x550, 0xaa0, 0x550, 0xaa0, 0x550, 0xaa0, 0, 0xa00a, 0, 0xa00a,
+    0, 0xa00a, 0, 0xa00a, 0x550, 0xaa0, 0x550, 0xaa0, 0x550, 0xaa0, 0x550, 0xaa0, 0, 0xa00a, 0,
+    0xa00a,
 ];
 
 /// The divisions behind a letter on two qubits, with the rows that commute as bits.
@@ -52,7 +54,11 @@ fn letters_divide_so_often(rt: HostRuntime) -> Result<(), Fail> {
     ];
     for (wholes, parts, commuting, p, count) in rows {
         if p < 16 {
-            assert_eq!(rt; of_two_qubits(&wholes, &parts, commuting, p), count, "letter {p}, {commuting}");
+            assert_eq!(rt;
+                of_two_qubits(&wholes, &parts, commuting, p),
+                count,
+                "letter {p}, {commuting}"
+            );
         }
     }
     Ok(())

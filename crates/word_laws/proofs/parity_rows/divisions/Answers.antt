@@ -1,8 +1,6 @@
-use Rattle.std.proofs.Common.{ℕ, length, sym, ◌∙◌, subst, arith}
+use Rattle.std.proofs.Common.{sym, ◌∙◌, arith}
 use Rattle.std.proofs.lemmas.Bool.{true≢false}
-use Rattle.channel_rep.specs.Tables.{SurdTable}
-use Rattle.word_laws.specs.Parities.{AreParities, WholesAgree, PartsAgree}
-use Rattle.word_laws.proofs.Bits.{WordsAgree, wholes_by_words, parts_by_words, even_by_words}
+use Rattle.word_laws.proofs.Bits.{wholes_by_words, parts_by_words, wholes_even_by_words}
 use Rattle.word_laws.proofs.Multiples.{divides_none, divides_once, divides_twice}
 use Rattle.word_laws.proofs.parity_rows.divisions.Goals as goal
 
@@ -19,7 +17,7 @@ pub returns-then-not-commuting_even : goal.returns-then-not-commuting_even
 returns-then-not-commuting_even c n inverse m h = record {
   few = omega arith;
   divides = (divides_once n inverse c.args.p m).1 ((wholes_by_words n c.args.p m _ _ _ h).0 (c.pairs_agree.ensures.0 c.if-not-pairs_agree.false));
-  no_more = λ _ twice. true≢false (sym (c.commuting_even.ensures.1 ((even_by_words n c.args.p m _ _ _ h).1 ((divides_twice n inverse c.args.p m).0 twice).1)) ∙ c.if-not-commuting_even.true);
+  no_more = λ _ twice. true≢false (sym (c.commuting_even.ensures.1 ((wholes_even_by_words n c.args.p m _ _ _ h).1 ((divides_twice n inverse c.args.p m).0 twice).1)) ∙ c.if-not-commuting_even.true);
 }
 
 -- or the parts of √2 don't agree
@@ -27,11 +25,8 @@ pub returns-then-not-pairs_agree-2 : goal.returns-then-not-pairs_agree-2
 returns-then-not-pairs_agree-2 c n inverse m h = record {
   few = omega arith;
   divides = (divides_once n inverse c.args.p m).1 ((wholes_by_words n c.args.p m _ _ _ h).0 (c.pairs_agree.ensures.0 c.if-not-pairs_agree.false));
-  no_more = λ _ twice. true≢false (sym (c.pairs_agree-2.ensures.1 (words ((divides_twice n inverse c.args.p m).0 twice).2)) ∙ c.if-not-pairs_agree-2.true);
+  no_more = λ _ twice. true≢false (sym (c.pairs_agree-2.ensures.1 ((parts_by_words n c.args.p m _ _ _ h c.requires.parts).1 ((divides_twice n inverse c.args.p m).0 twice).2)) ∙ c.if-not-pairs_agree-2.true);
 }
-  where
-    words : PartsAgree n c.args.p m → WordsAgree (length c.args.parts.now) c.args.p c.args.parts.now c.args.commutes.now
-    words agree = subst (λ k. WordsAgree k c.args.p c.args.parts.now c.args.commutes.now) (sym c.requires.parts) ((parts_by_words n c.args.p m c.args.wholes.now c.args.parts.now c.args.commutes.now h).1 agree)
 
 -- all of it
 pub returns : goal.returns
@@ -39,9 +34,8 @@ returns c n inverse m h = record {
   few = omega arith;
   divides = (divides_twice n inverse c.args.p m).1 (
     (wholes_by_words n c.args.p m _ _ _ h).0 (c.pairs_agree.ensures.0 c.if-not-pairs_agree.false),
-    (even_by_words n c.args.p m _ _ _ h).0 (c.commuting_even.ensures.0 c.if-not-commuting_even.false),
-    (parts_by_words n c.args.p m c.args.wholes.now c.args.parts.now c.args.commutes.now h).0
-        (subst (λ k. WordsAgree k c.args.p c.args.parts.now c.args.commutes.now) c.requires.parts (c.pairs_agree-2.ensures.0 c.if-not-pairs_agree-2.false)),
+    (wholes_even_by_words n c.args.p m _ _ _ h).0 (c.commuting_even.ensures.0 c.if-not-commuting_even.false),
+    (parts_by_words n c.args.p m _ _ _ h c.requires.parts).0 (c.pairs_agree-2.ensures.0 c.if-not-pairs_agree-2.false),
   );
   no_more = λ l. absurd (omega arith);
 }
