@@ -1,0 +1,11 @@
+pub mod Congruences
+pub mod Folds
+pub mod Wholes
+pub mod Ranks
+pub mod Rising
+pub mod Totals
+pub mod Fronts
+pub mod Places
+pub mod Digits
+pub mod Packed
+pub mod SparseSums

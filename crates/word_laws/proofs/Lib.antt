@@ -1,0 +1,10 @@
+pub mod Spans
+pub mod Sparse
+pub mod Rotations
+pub mod Parities
+pub mod Multiples
+pub mod Exponents
+pub mod Bits
+pub mod Commuting
+pub mod Exchanges
+pub mod Rests

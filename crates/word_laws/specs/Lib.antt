@@ -1,0 +1,5 @@
+pub mod Spans
+pub mod Divisions
+pub mod Parities
+pub mod Rests
+pub mod Laws
