@@ -1,6 +1,7 @@
 -- What a level merely keeps, it keeps: each part has one proof, or a truth value tells it.
 use Rattle.std.proofs.Common.{◌≡◌, ◌≢◌, ℕ, ◌+◌, ◌<◌, Bool, true, not, ◌&&◌, ◌==◌, Decides, List, Contains, Option, None, Some, length, get_or, refl, sym, ap, subst}
 use Rattle.std.proofs.Props.{props}
+use mathlib.Core.HLevel.{⊥_prop}
 use Rattle.std.proofs.Math.Bool.{Bool-set}
 use Rattle.std.proofs.Math.Logic.{∥∥₁_elim, ∥∥₁_map, ∥∥₁_prop}
 use Rattle.std.proofs.Math.Nat.{ℕ_set}
@@ -51,7 +52,7 @@ module _ (shape : Shape) (words : List ℕ) where
       let same : ℕ → Bool = λ k. bytes_eq (letters_of shape (get_or words k 0)) w in
       let test : ℕ → Bool = λ k. full k && same k in
       told (at_some test shape.capacity)
-      (Decides-like _ (λ h. (h.0, ((h.1, h.2.0), h.2.1))) (λ h. (h.0, (h.1.0, (h.1.1, h.2))))
+      (Decides-like _ (λ h. (h.0, (h.1, h.2.0), h.2.1)) (λ h. (h.0, h.1.0, (h.1.1, h.2)))
       (Decides-below_or test (λ k. (get_or words k 0 ≢ 0) × (letters_of shape (get_or words k 0) ≡ w)) (at_some test)
       (λ k. Decides-and (full k) (same k) (full_decided k) (bytes_eq-Decides (letters_of shape (get_or words k 0)) w)) refl (λ _. refl) shape.capacity))
 
@@ -61,9 +62,10 @@ module _ (shape : Shape) (words : List ℕ) where
       let at : ℕ → ℕ = place shape.capacity (home_of shape (get_or words k 0)) in
       let test : ℕ → Bool = λ d. (at d == k) && at_all (λ e. full (at e)) d in
       told (at_some test shape.capacity)
+      (Decides-like _ (λ h. (h.0, h.1, h.2.0, h.2.1)) (λ h. (h.0, h.1, (h.2, h.3)))
       (Decides-below_or test (λ d. (at d ≡ k) × ((e : ℕ) → e < d → get_or words (at e) 0 ≢ 0)) (at_some test)
       (λ d. Decides-and (at d == k) (at_all (λ e. full (at e)) d) (Decides-eqb (at d) k)
-          (Decides-below_and (λ e. full (at e)) (λ e. get_or words (at e) 0 ≢ 0) (at_all (λ e. full (at e))) (λ e. full_decided (at e)) refl (λ _. refl) d)) refl (λ _. refl) shape.capacity)
+          (Decides-below_and (λ e. full (at e)) (λ e. get_or words (at e) 0 ≢ 0) (at_all (λ e. full (at e))) (λ e. full_decided (at e)) refl (λ _. refl) d)) refl (λ _. refl) shape.capacity))
 
   -- a bucket word
   bucket_word : (number : ℕ) → ∥ IsBucketWord shape number ∥₁ → IsBucketWord shape number
@@ -92,7 +94,7 @@ bucketed n len all b t =
 -- no buckets
 empty : (o : Option Buckets) → ∥ o ≡ None ∥₁ → o ≡ None
 empty None t = refl
-empty (Some b) t = absurd (∥∥₁_elim t hlevel (λ (e : Some b ≡ None). (let f : ⊥ = cc in f)))
+empty (Some b) t = absurd (∥∥₁_elim t ⊥_prop (λ (e : Some b ≡ None). (let f : ⊥ = cc in f)))
 
 -- a stored level
 keeping : (n k : ℕ) (list : List RotationWord) (table : Option Buckets) → ∥ IsStored n k list table ∥₁ → IsStored n k list table
