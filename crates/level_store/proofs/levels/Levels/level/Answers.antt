@@ -1,4 +1,4 @@
-use Rattle.std.proofs.Common.{◌≡◌, Some, slice_get, slice_index_or, length, refl, subst}
+use Rattle.std.proofs.Common.{◌≡◌, Some, slice_get, length, refl, subst}
 use Rattle.std.proofs.lemmas.Option.{slice_get_read, get_or_from_slice_get}
 use Rattle.level_store.specs.InOrder.{IsLevelOf}
 use Rattle.level_store.specs.Stored.{qubits_of_all, levels_of}
