@@ -6,7 +6,7 @@ use Rattle.channel_rep.specs.Cells.{ChannelGrid, scaled, table_of, IsReduced}
 use Rattle.channel_rep.specs.Tables.{ScaledTable, SameTable, IsCircuitChannel}
 use Rattle.level_laws.specs.Levels.{removed}
 use Rattle.level_store.specs.declared.level.Level.{Level}
-use Rattle.level_store.specs.Stored.{IsStored}
+use Rattle.level_store.specs.InOrder.{IsLevelOf}
 use Rattle.coset_label.specs.Decided.{at_all, at_some, same_surd}
 use Rattle.coset_label.specs.Words.{most_letters}
 
@@ -37,7 +37,9 @@ keeps n words target (Some number) m = is_kept n target (slice_index_or words nu
 -- what holds wherever a front is asked: the target is a circuit's channel, whose exponent is at most the letters of the longest
 -- words that are looked for, and the level is one of words of half the letters
 pub record IsAsked (n half : ℕ) (target : ChannelGrid) (level : Level) : Type 0 where
+  pub some : 0 < n
+  pub few : n ≤ 3
   pub qubits : target.qubits ≡ n
   pub low : target.exponent ≤ 2 * most_letters n
   pub circuit : IsCircuitChannel n (scaled target)
-  pub stored : IsStored n half level
+  pub number : IsLevelOf n half level

@@ -4,7 +4,8 @@ ghost use Rattle.channel_rep.specs.Cells.{scaled, IsReduced};
 ghost use Rattle.channel_rep.specs.Tables.{ScaledTable, SameTable, IsCircuitChannel};
 ghost use Rattle.coset_label.specs.Words.{most_letters};
 ghost use Rattle.level_laws.specs.Levels.{removed};
-ghost use Rattle.level_store.specs.Stored.{Finds, IsStored, letters_in, words_of};
+ghost use Rattle.level_store.specs.InOrder.{IsLevelOf};
+ghost use Rattle.level_store.specs.Stored.{Finds, letters_in, words_of};
 ghost use Rattle.meet_middle.specs.Fronts.{front_of, fronts_of};
 ghost use Rattle.meet_middle.specs.Kept.{IsAsked, IsKept, keeps};
 ghost use Rattle.meet_middle.specs.Halves.{middle_letters};
@@ -84,7 +85,7 @@ impl<const N: u8> Probe<N> {
     /// the least exponent by at most one, so nothing is taken off where the exponent of what is kept passes that.
     fn meet(&mut self, level: &Level, half: u8, middle: &Option<Pauli>) -> Option<Word>
         requires fit { ⟦<Probe<N> as Local>⟧.fit self.old ≡ true }
-        requires stored { IsStored N half level.now }
+        requires number { IsLevelOf N half level.now }
         requires reduced { IsReduced self.old.kept }
         requires circuit { IsCircuitChannel N (scaled self.old.kept) }
         requires middle { IfSome middle.now (λ p. (p.qubits ≡ N) × (p.code < 4 ^ N) × (p.code ≢ 0)) }

@@ -3,7 +3,8 @@ ghost use Rattle.std.specs.Prelude.{◌≡◌, ◌+◌, ◌≤◌, length};
 ghost use Rattle.channel_rep.specs.Cells.{scaled, most_exponent, IsReduced};
 ghost use Rattle.channel_rep.specs.Tables.{SameTable, IsCircuitChannel};
 ghost use Rattle.level_laws.specs.Levels.{removed};
-ghost use Rattle.level_store.specs.Stored.{Finds, IsStored};
+ghost use Rattle.level_store.specs.InOrder.{IsLevelOf};
+ghost use Rattle.level_store.specs.Stored.{Finds};
 
 use channel_rep::Channel;
 use coset_label::{Scratch, Word, label_into};
@@ -31,7 +32,7 @@ pub fn find_rest(
     label: &mut Scratch,
     other: &mut Scratch,
 ) -> Option<Word>
-    requires stored { IsStored channel.now.qubits half level.now }
+    requires number { IsLevelOf channel.now.qubits half level.now }
     requires label { label.old.qubits ≡ channel.now.qubits }
     requires other { other.old.qubits ≡ channel.now.qubits }
     requires reduced { IsReduced channel.now }
