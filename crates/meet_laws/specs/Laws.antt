@@ -81,6 +81,10 @@ LeastWordsMakeCircuits = (n : ℕ) → 0 < n → n ≤ 3 → (c : List Gate) →
     → (d : List Gate) → IsCircuit n d → t_count_of d ≡ 0 → SameTable n (built n (steps_of d)) (removed n m w) → IsLeastCircuit n c (d ++ word_gates n w) (length w)
 
 -- ---- halves that meet
+-- a front that meets spells, with the word that it meets, a word of the coset
+abbrev pub MeetingsSpellWords : Type 0
+MeetingsSpellWords = (n : ℕ) → 0 < n → n ≤ 3 → (m : ScaledTable) (h : ℕ) (a b : List ℕ) → IsWord n a → Meets n m h a b → IsInCoset n m (a ++ b)
+
 -- a total t whose fronts stand in order, with h letters behind each: where none of them meets, no word of at most t letters
 -- is in the coset; the first that meets spells the least word with what it meets
 pub record TellsTotal (n : ℕ) (m : ScaledTable) (t h count : ℕ) (front : ℕ → List ℕ) : Type 0 where
