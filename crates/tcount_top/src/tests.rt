@@ -311,6 +311,15 @@ fn sizes_of_levels(rt: HostRuntime) -> Result<(), Fail> {
     Ok(())
 }
 
+// Each level of two qubits, to the last.
+#[test]
+fn all_levels_of_two_qubits(rt: HostRuntime) -> Result<(), Fail> {
+    let (status, bytes) = answer(&rt, rt.alloc(), &["levels", "2", "6", "1"], b"", &OpenWay)?;
+    assert_eq!(rt; status, Status::Found);
+    assert!(rt; bytes.as_slice() == b"1 15 165 1695 16710 161670 1548480\n".as_slice());
+    Ok(())
+}
+
 #[test]
 fn two_workers_meet(rt: HostRuntime) -> Result<(), Fail> {
     let gate = Meeting::new();
