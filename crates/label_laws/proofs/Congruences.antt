@@ -28,9 +28,6 @@ twice x p q m = ring integers_laws (x ∷ p ∷ q ∷ m ∷ []) (search reads de
 parted : (x q k m : ℤ) → x +ℤ q *ℤ (k *ℤ m) ≡ x +ℤ (q *ℤ k) *ℤ m
 parted x q k m = ring integers_laws (x ∷ q ∷ k ∷ m ∷ []) (search reads depth 30 parts 0 fits 10000) tt
 
-turned : (x q m : ℤ) → neg_ℤ (x +ℤ q *ℤ m) ≡ neg_ℤ x +ℤ neg_ℤ q *ℤ m
-turned x q m = ring integers_laws (x ∷ q ∷ m ∷ []) (search reads depth 30 parts 0 fits 10000) tt
-
 -- ---- numbers modulo m
 -- a number is itself
 pub congruent_self : (m f : ℕ) → IsCongruent m (pos f) f
@@ -57,17 +54,6 @@ pub congruent_cut : (m f : ℕ) → IsCongruent m (pos f) (f % m)
 congruent_cut m f =
     (neg_ℤ (pos (f / m)), taken (pos (f % m)) (pos (f / m)) (pos m) ∙ ap (λ x. x +ℤ neg_ℤ (pos (f / m)) *ℤ pos m) (ap pos (omega (arith, div-add-mod' f m))))
 
--- and back
-pub congruent_uncut : (m : ℕ) (x : ℤ) (f : ℕ) → IsCongruent m x (f % m) → IsCongruent m x f
-congruent_uncut m x f h = congruent_again m x (f % m) f (pos (f / m), ap pos (omega (arith, div-add-mod' f m))) h
-
--- one remainder
-pub congruent_same : (m : ℕ) (x : ℤ) (f g : ℕ) → IsCongruent m x f → f % m ≡ g % m → IsCongruent m x g
-congruent_same m x f g h e = congruent_uncut m x g (congruent_again m x f (g % m) (simplified (congruent_cut m f)) h)
-  where
-    simplified : IsCongruent m (pos f) (f % m) → IsCongruent m (pos f) (g % m)
-    simplified k = (k.0, ap pos (sym e) ∙ k.1)
-
 -- numbers of one whole number have one remainder
 pub one_remainder : (m : ℕ) (x : ℤ) (f g : ℕ) → IsCongruent m x f → IsCongruent m x g → f % m ≡ g % m
 one_remainder m x f g h k = by (neg_ℤ k.0 +ℤ h.0) (h.1 ∙ ap (λ y. y +ℤ h.0 *ℤ pos m) (taken x k.0 (pos m) ∙ ap (λ y. y +ℤ neg_ℤ k.0 *ℤ pos m) (sym k.1)) ∙ twice (pos g) (neg_ℤ k.0) h.0 (pos m))
@@ -89,17 +75,17 @@ pub congruent_residue : (z : ℤ) → IsCongruent (2 ^ 38) z (residue z)
 congruent_residue (pos v) = (neg_ℤ (pos (v / 2 ^ 38)), omega (arith, ints))
 congruent_residue (negsuc v) = (pos (v / 2 ^ 38 + 1), omega (arith, ints))
 
--- whole numbers of one natural number are the same modulo m
 crossed : (x y p q m : ℤ) → x +ℤ p *ℤ m ≡ y +ℤ q *ℤ m → x ≡ y +ℤ (q +ℤ neg_ℤ p) *ℤ m
 crossed x y p q m e = taken x p m ∙ ap (λ z. z +ℤ neg_ℤ p *ℤ m) e ∙ twice y q (neg_ℤ p) m
 
+-- whole numbers of one natural number are the same modulo m
 pub one_whole : (m : ℕ) (x y : ℤ) (f : ℕ) → IsCongruent m x f → IsCongruent m y f → (q : ℤ) × (x ≡ y +ℤ q *ℤ pos m)
 one_whole m x y f h k = (k.0 +ℤ neg_ℤ h.0, crossed x y h.0 k.0 (pos m) (sym h.1 ∙ k.1))
 
--- a summand that is the same modulo m
 regrouped : (a y q m : ℤ) → a +ℤ (y +ℤ q *ℤ m) ≡ (a +ℤ y) +ℤ q *ℤ m
 regrouped a y q m = ring integers_laws (a ∷ y ∷ q ∷ m ∷ []) (search reads depth 30 parts 0 fits 10000) tt
 
+-- a summand may be another one that is the same modulo m
 pub congruent_summand : (m : ℕ) (a x y : ℤ) (f g : ℕ) → IsCongruent m x g → IsCongruent m y g → IsCongruent m (a +ℤ x) f → IsCongruent m (a +ℤ y) f
 congruent_summand m a x y f g h k is =
     let same = one_whole m x y g h k in

@@ -168,10 +168,10 @@ number_sign base (pos zero ∷ digits) h = number_sign base digits h.1 ∙ ap (�
 number_sign base (pos (suc k) ∷ digits) h = sign_false _ (positive k (base ^ length digits) (signed_number base digits) (signed_between base digits h.1).1)
 number_sign base (negsuc k ∷ digits) h = sign_true _ (negative k (base ^ length digits) (signed_number base digits) (signed_between base digits h.1).0)
 
--- the negatives of the digits make the negative number
 negative_formula : (d p x : ℤ) → neg_ℤ d *ℤ p +ℤ neg_ℤ x ≡ neg_ℤ (d *ℤ p +ℤ x)
 negative_formula d p x = ring integers_laws (d ∷ p ∷ x ∷ []) (search reads depth 30 parts 0 fits 10000) tt
 
+-- the negatives of the digits make the negative number
 pub number-negative : (base : ℕ) (digits : List ℤ) → signed_number base (map neg_ℤ digits) ≡ neg_ℤ (signed_number base digits)
 number-negative base [] = refl
 number-negative base (d ∷ digits) =

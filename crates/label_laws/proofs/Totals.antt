@@ -141,7 +141,6 @@ tag_of_total n some few m circuit label is f sum =
     ∙ one_remainder (2 ^ 38) (label_total n m) (fold fold_number 0 (label_numbers label)) f (total_of_label n some few m circuit label is) sum)
 
 -- ---- halves
--- twice the folds come to twice the sum
 turned_twice : (b : Bool) (x : ℤ) → turned_whole b (pos 2 *ℤ x) ≡ pos 2 *ℤ turned_whole b x
 turned_twice true x = ring integers_laws (x ∷ []) (search reads depth 30 parts 0 fits 10000) tt
 turned_twice false x = refl
@@ -149,6 +148,7 @@ turned_twice false x = refl
 times_assoc : (x y z : ℤ) → x *ℤ y *ℤ z ≡ x *ℤ (y *ℤ z)
 times_assoc x y z = ring integers_laws (x ∷ y ∷ z ∷ []) (search reads depth 30 parts 0 fits 10000) tt
 
+-- twice the folds come to twice the sum
 pub placed_twice : (n : ℕ) (m : SurdTable) (folds halves : ℕ → ℤ) → ((c : ℕ) → c < 4 ^ n → folds c ≡ pos 2 *ℤ halves c) → placed_folds n m folds ≡ pos 2 *ℤ placed_folds n m halves
 placed_twice n m folds halves h =
     sum_cong integers_laws (4 ^ n) _ _ (λ c l.

@@ -23,6 +23,7 @@ use Rattle.label_laws.proofs.Congruences.{congruent_self, congruent-plus, congru
 abbrev pub whole_fold : ℤ → List ℤ → ℤ
 whole_fold F xs = fold (λ f v. f *ℤ pos 1000003 +ℤ v) F xs
 
+-- from 0 on
 abbrev pub whole_sum : List ℤ → ℤ
 whole_sum xs = whole_fold (pos 0) xs
 
@@ -44,10 +45,10 @@ whole_fold_is F f (v ∷ xs) h =
     whole_fold_is (F *ℤ pos 1000003 +ℤ v) (fold_number f v) xs
     (congruent_again (2 ^ 38) (F *ℤ pos 1000003 +ℤ v) (f * 1000003 + residue v) (fold_number f v) (congruent_cut (2 ^ 38) (f * 1000003 + residue v)) next)
 
--- what stands before a list comes to that times a power of the base
 behind_step : (f v b p r : ℤ) → (f *ℤ b +ℤ v) *ℤ p +ℤ r ≡ f *ℤ (b *ℤ p) +ℤ ((pos 0 *ℤ b +ℤ v) *ℤ p +ℤ r)
 behind_step f v b p r = ring integers_laws (f ∷ v ∷ b ∷ p ∷ r ∷ []) (search reads depth 30 parts 0 fits 10000) tt
 
+-- what stands before a list comes to that times a power of the base
 pub whole_fold-behind : (F : ℤ) (xs : Column) → whole_fold F xs ≡ F *ℤ pos (1000003 ^ length xs) +ℤ whole_sum xs
 whole_fold-behind F [] = no_factor F ∙ ap (λ p. F *ℤ pos p +ℤ pos 0) (sym (pow-zero 1000003))
 whole_fold-behind F (v ∷ xs) =
@@ -60,10 +61,10 @@ whole_fold-behind F (v ∷ xs) =
 pub whole_fold-append : (F : ℤ) (xs ys : Column) → whole_fold F (xs ++ ys) ≡ whole_fold (whole_fold F xs) ys
 whole_fold-append F xs ys = fold-append (λ f v. f *ℤ pos 1000003 +ℤ v) F xs ys
 
--- the negatives
 negative_step : (f b v : ℤ) → neg_ℤ f *ℤ b +ℤ neg_ℤ v ≡ neg_ℤ (f *ℤ b +ℤ v)
 negative_step f b v = ring integers_laws (f ∷ b ∷ v ∷ []) (search reads depth 30 parts 0 fits 10000) tt
 
+-- the negatives fold to the negative
 pub whole_fold-negative : (F : ℤ) (xs : Column) → whole_fold (neg_ℤ F) (map neg_ℤ xs) ≡ neg_ℤ (whole_fold F xs)
 whole_fold-negative F [] = refl
 whole_fold-negative F (v ∷ xs) = ap (λ f. whole_fold f (map neg_ℤ xs)) (negative_step F (pos 1000003) v) ∙ whole_fold-negative (F *ℤ pos 1000003 +ℤ v) xs

@@ -18,7 +18,8 @@ pub fn labels_are_sums()
     ensures halves { SumsAreHalved }
 {}
 
-/// The tag of a letter before a word comes of the cells of the word's own channel.
+/// The tag of a letter before a word comes of folds of the word's own columns, with the signs and places of the columns
+/// behind the letter.
 pub fn fronts_have_tags()
     ensures { FrontsHaveTags }
 {}

@@ -22,7 +22,6 @@ module _ (n p rows : ℕ) (many : rows ≡ 4 ^ n) (code : p < 4 ^ n) (number : �
     (below : (row : ℕ) → row < 4 ^ n → slice_index words row < 2 ^ 4 ^ n)
     (bits : (row column : ℕ) → row < 4 ^ n → column < 4 ^ n → bit_at (slice_index words row) column ≡ parity (number row column))
     (commuting : (row : ℕ) → row < 4 ^ n → slice_index_or commutes row false ≡ commute n p row) where
-
   -- words are equal where the parities are
   agree_by_words : WordsAgree rows p words commutes
       ↔ ((row column : ℕ) → row < 4 ^ n → column < 4 ^ n → commute n p row ≡ false → parity (number row column) ≡ parity (number (product_code p row) column))

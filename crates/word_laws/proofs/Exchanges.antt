@@ -126,5 +126,6 @@ pub words_exchange : (n p q : ℕ) (front back : List ℕ) → commute n p q ≡
 words_exchange n p q [] back e is = front_exchange n p q e back is.0.0 is.0.1 is.1.0.0 is.1.0.1
 words_exchange n p q (x ∷ front) back e is = behind_front n x (front ++ p ∷ q ∷ back) (front ++ q ∷ p ∷ back) (words_exchange n p q front back e is)
 
+-- and the word stays in its coset
 pub cosets_exchange : (n p q : ℕ) (front back : List ℕ) → commute n p q ≡ true → IsWord n (p ∷ q ∷ back) → SameCosetWords n (front ++ p ∷ q ∷ back) (front ++ q ∷ p ∷ back)
 cosets_exchange n p q front back e is = same_coset_of_same n _ _ (words_exchange n p q front back e is)

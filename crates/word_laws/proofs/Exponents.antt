@@ -1,43 +1,48 @@
 -- One letter changes the least exponent by at most one, and the number of divisions tells by how much.
-use Rattle.std.proofs.Common.{◌≡◌, ◌≢◌, ◌↔◌, ℕ, suc, ◌+◌, ◌-◌, ◌^◌, ◌<◌, ◌≤◌, false, true, ap, sym, ◌∙◌, arith, inl, inr}
+use Rattle.std.proofs.Common.{◌≡◌, ◌≢◌, ◌↔◌, ℕ, suc, ◌+◌, ◌-◌, ◌^◌, ◌<◌, ◌≤◌, Bool, true, false, not, ap, sym, ◌∙◌, arith, inl, inr}
 use Rattle.std.proofs.lemmas.Bool.{cases_eq, cases_lt}
 use Rattle.ring_laws.specs.Ring.{power}
+use Rattle.ring_laws.specs.Matrix.{product}
 use Rattle.ring_laws.proofs.Ring.{mul_left_comm}
-use Rattle.tc_ring.specs.Surds.{Surd, surd_times, root2_surd}
+use Rattle.tc_ring.specs.Surds.{surds, surd_times, root2_surd}
 use Rattle.tc_ring.proofs.Surds.{surds_laws, surd_times_assoc, cancel_root2_surd, cancel_root2_power}
-use Rattle.channel_rep.specs.Tables.{SurdTable, ScaledTable, by_rotation, stepped, SameTable}
+use Rattle.channel_rep.specs.Tables.{SurdTable, ScaledTable, stepped, SameTable, rotation_table}
 use Rattle.channel_rep.specs.Rows.{rotated}
 use Rattle.channel_rep.proofs.Built.{root2_to, root2_to-add}
 use Rattle.channel_rep.proofs.Least.{odd_has_least}
 use Rattle.channel_rep.proofs.Rules.{rotation_rule}
-use Rattle.coset_label.specs.Labels.{HasOddEntry, HasLeastExponent}
-use Rattle.word_laws.specs.Divisions.{IsMultiple, IsDivisionCount}
+use Rattle.coset_label.specs.Labels.{HasLeastExponent}
+use Rattle.word_laws.specs.Divisions.{IsMultiple, IsDivisionCount, letter_step}
 use Rattle.word_laws.proofs.Rotations.{rotated_factor, rotated_agree, undone}
 use Rattle.word_laws.proofs.Parities.{AllEven, even_or_odd, odd_quarter}
 use Rattle.word_laws.proofs.Multiples.{over_root2, halves, root2_to-suc, root2_to-two}
 
 -- ---- the least exponent
-module _ (n p : ℕ) (lp : p < 4 ^ n) (d : p ≢ 0) (a b : ScaledTable) (same : SameTable n b (stepped n (by_rotation p) a)) where
+-- a rotation, or its inverse, times a table
+abbrev behind : ℕ → Bool → ℕ → ScaledTable → ScaledTable
+behind n inverse p m = record { table = product surds (4 ^ n) (rotation_table n inverse p) m.table; exponent = 1 + m.exponent }
+
+module _ (n : ℕ) (inverse : Bool) (p : ℕ) (lp : p < 4 ^ n) (d : p ≢ 0) (a b : ScaledTable) (same : SameTable n b (behind n inverse p a)) where
   -- it rises by at most one
-  pub rises_by_one : HasLeastExponent n b → b.exponent ≤ a.exponent + 1
-  rises_by_one least = elim least [
+  rise : HasLeastExponent n b → b.exponent ≤ a.exponent + 1
+  rise least = elim least [
     | inl none ↦ omega arith
     | inr odd ↦
-        let low = odd_has_least (1 + a.exponent) b.exponent ((stepped n (by_rotation p) a).table odd.row odd.column) (b.table odd.row odd.column) odd.odd (sym (same odd.row odd.column odd.row_below odd.column_below)) in
+        let low = odd_has_least (1 + a.exponent) b.exponent ((behind n inverse p a).table odd.row odd.column) (b.table odd.row odd.column) odd.odd (sym (same odd.row odd.column odd.row_below odd.column_below)) in
         omega (arith, low)
   ]
 
   -- the table before, from the one behind
-  back_table : (row column : ℕ) → row < 4 ^ n → column < 4 ^ n → surd_times (root2_to a.exponent) (rotated n true p b.table row column) ≡ surd_times (root2_to (b.exponent + 1)) (a.table row column)
+  back_table : (row column : ℕ) → row < 4 ^ n → column < 4 ^ n → surd_times (root2_to a.exponent) (rotated n (not inverse) p b.table row column) ≡ surd_times (root2_to (b.exponent + 1)) (a.table row column)
   unfolding power
   back_table row column l h =
       cancel_root2_surd _ _
-      (sym (surd_times_assoc root2_surd (root2_to a.exponent) (rotated n true p b.table row column))
-      ∙ ap (λ k. surd_times (root2_to k) (rotated n true p b.table row column)) first
-      ∙ rotated_factor n true p (root2_to (1 + a.exponent)) b.table row column
-      ∙ rotated_agree n true p lp _ _ row column l (λ r k. same r column k h ∙ ap (surd_times (root2_to b.exponent)) (rotation_rule n false p lp d a.table r column k))
-      ∙ sym (rotated_factor n true p (root2_to b.exponent) (rotated n false p a.table) row column)
-      ∙ ap (surd_times (root2_to b.exponent)) (undone n false p a.table row column)
+      (sym (surd_times_assoc root2_surd (root2_to a.exponent) (rotated n (not inverse) p b.table row column))
+      ∙ ap (λ k. surd_times (root2_to k) (rotated n (not inverse) p b.table row column)) first
+      ∙ rotated_factor n (not inverse) p (root2_to (1 + a.exponent)) b.table row column
+      ∙ rotated_agree n (not inverse) p lp _ _ row column l (λ r k. same r column k h ∙ ap (surd_times (root2_to b.exponent)) (rotation_rule n inverse p lp d a.table r column k))
+      ∙ sym (rotated_factor n (not inverse) p (root2_to b.exponent) (rotated n inverse p a.table) row column)
+      ∙ ap (surd_times (root2_to b.exponent)) (undone n inverse p a.table row column)
       ∙ mul_left_comm surds_laws (root2_to b.exponent) root2_surd (surd_times root2_surd (a.table row column))
       ∙ ap (surd_times root2_surd) (mul_left_comm surds_laws (root2_to b.exponent) root2_surd (a.table row column) ∙ sym (surd_times_assoc root2_surd (root2_to b.exponent) (a.table row column)) ∙ ap (λ k. surd_times (root2_to k) (a.table row column)) one))
     where
@@ -48,18 +53,18 @@ module _ (n p : ℕ) (lp : p < 4 ^ n) (d : p ≢ 0) (a b : ScaledTable) (same : 
       first = omega arith
 
   -- and falls by at most one
-  pub falls_by_one : HasLeastExponent n a → a.exponent ≤ b.exponent + 1
-  falls_by_one least = elim least [
+  fall : HasLeastExponent n a → a.exponent ≤ b.exponent + 1
+  fall least = elim least [
     | inl none ↦ omega arith
-    | inr odd ↦ odd_has_least (b.exponent + 1) a.exponent (rotated n true p b.table odd.row odd.column) (a.table odd.row odd.column) odd.odd (back_table odd.row odd.column odd.row_below odd.column_below)
+    | inr odd ↦ odd_has_least (b.exponent + 1) a.exponent (rotated n (not inverse) p b.table odd.row odd.column) (a.table odd.row odd.column) odd.odd (back_table odd.row odd.column odd.row_below odd.column_below)
   ]
 
   -- ---- by the number of divisions
   -- the entries behind, over their exponent, are those of the rotation over one power more than before
-  entry_is : (row column : ℕ) → row < 4 ^ n → column < 4 ^ n → surd_times (root2_to (1 + a.exponent)) (b.table row column) ≡ surd_times (root2_to b.exponent) (rotated n false p a.table row column)
-  entry_is row column l h = same row column l h ∙ ap (surd_times (root2_to b.exponent)) (rotation_rule n false p lp d a.table row column l)
+  entry_is : (row column : ℕ) → row < 4 ^ n → column < 4 ^ n → surd_times (root2_to (1 + a.exponent)) (b.table row column) ≡ surd_times (root2_to b.exponent) (rotated n inverse p a.table row column)
+  entry_is row column l h = same row column l h ∙ ap (surd_times (root2_to b.exponent)) (rotation_rule n inverse p lp d a.table row column l)
 
-  module _ (count : ℕ) (is : IsDivisionCount n (rotated n false p a.table) count) where
+  module _ (count : ℕ) (is : IsDivisionCount n (rotated n inverse p a.table) count) where
     quotient : SurdTable
     quotient = is.divides.0
 
@@ -81,7 +86,7 @@ module _ (n p : ℕ) (lp : p < 4 ^ n) (d : p ≢ 0) (a b : ScaledTable) (same : 
     ]
 
     -- nor smaller: else the rotation could be divided once more
-    once_more : b.exponent + count < a.exponent + 1 → IsMultiple n (count + 1) (rotated n false p a.table)
+    once_more : b.exponent + count < a.exponent + 1 → IsMultiple n (count + 1) (rotated n inverse p a.table)
     once_more l = (λ row column. surd_times (root2_to over) (b.table row column), λ row column h k. cancel_root2_power b.exponent _ _ (sym (whole row column) ∙ entry_is row column h k))
       where
         over : ℕ
@@ -95,23 +100,23 @@ module _ (n p : ℕ) (lp : p < 4 ^ n) (d : p ≢ 0) (a b : ScaledTable) (same : 
             ∙ ap (surd_times (root2_to b.exponent)) (root2_to-add (count + 1) over (b.table row column))
 
     exponent_is : HasLeastExponent n a → HasLeastExponent n b → b.exponent ≡ a.exponent + 1 - count
-    exponent_is before behind = elim (cases_lt count 2) [
+    exponent_is before after = elim (cases_lt count 2) [
       | inl few ↦ elim (cases_lt (b.exponent + count) (a.exponent + 1)) [
         | inl less ↦ absurd (is.no_more few (once_more less))
-        | inr more ↦ omega (arith, least_is_low behind)
+        | inr more ↦ omega (arith, least_is_low after)
       ]
-      | inr two ↦ omega (arith, is.few, falls_by_one before, least_is_low behind)
+      | inr two ↦ omega (arith, is.few, fall before, least_is_low after)
     ]
 
     -- ---- the exponent that this gives is the least one
     -- where it isn't 0, the table behind is the quotient
-    table_is : b.exponent + count ≡ a.exponent + 1 → (row column : ℕ) → row < 4 ^ n → column < 4 ^ n → surd_times (root2_to count) (b.table row column) ≡ rotated n false p a.table row column
+    table_is : b.exponent + count ≡ a.exponent + 1 → (row column : ℕ) → row < 4 ^ n → column < 4 ^ n → surd_times (root2_to count) (b.table row column) ≡ rotated n inverse p a.table row column
     table_is e row column l h =
         let sum : b.exponent + count ≡ 1 + a.exponent = omega arith in
         cancel_root2_power b.exponent _ _ (sym (root2_to-add b.exponent count (b.table row column)) ∙ ap (λ k. surd_times (root2_to k) (b.table row column)) sum ∙ entry_is row column l h)
 
     -- and if all its whole parts were even, the rotation could be divided once more
-    even_once_more : b.exponent + count ≡ a.exponent + 1 → AllEven n b.table → IsMultiple n (count + 1) (rotated n false p a.table)
+    even_once_more : b.exponent + count ≡ a.exponent + 1 → AllEven n b.table → IsMultiple n (count + 1) (rotated n inverse p a.table)
     even_once_more e even = (
       λ row column. over_root2 (b.table row column),
       λ row column l h.
@@ -130,16 +135,28 @@ module _ (n p : ℕ) (lp : p < 4 ^ n) (d : p ≢ 0) (a b : ScaledTable) (same : 
         | inr odd ↦ inr odd
         | inl even ↦ elim (cases_lt count 2) [
           | inl few ↦ absurd (is.no_more few (even_once_more (omega arith) even))
-          | inr more ↦ inr (odd_quarter n false p lp a b (twice (omega (arith, is.few)) (omega arith)) (elim before [ inl none ↦ absurd (omega arith) | inr odd ↦ odd ]))
+          | inr more ↦ inr (odd_quarter n inverse p lp a b (twice (omega (arith, is.few)) (omega arith)) (elim before [ inl none ↦ absurd (omega arith) | inr odd ↦ odd ]))
         ]
       ]
     ]
       where
-        twice : count ≡ 2 → b.exponent + count ≡ a.exponent + 1 → (row column : ℕ) → row < 4 ^ n → column < 4 ^ n → surd_times root2_surd (surd_times root2_surd (b.table row column)) ≡ rotated n false p a.table row column
+        twice : count ≡ 2 → b.exponent + count ≡ a.exponent + 1 → (row column : ℕ) → row < 4 ^ n → column < 4 ^ n → surd_times root2_surd (surd_times root2_surd (b.table row column)) ≡ rotated n inverse p a.table row column
         twice two whole row column l h =
             sym (root2_to-two (b.table row column)) ∙ ap (λ k. surd_times (root2_to k) (b.table row column)) (sym two) ∙ table_is whole row column l h
 
--- the least exponent behind, both ways
-pub exponent_by_divisions : (n p : ℕ) → p < 4 ^ n → p ≢ 0 → (a b : ScaledTable) → SameTable n b (stepped n (by_rotation p) a) → HasLeastExponent n a → (count : ℕ) → IsDivisionCount n (rotated n false p a.table) count
-    → HasLeastExponent n b ↔ (b.exponent ≡ a.exponent + 1 - count)
-exponent_by_divisions n p lp d a b same before count is = (exponent_is n p lp d a b same count is before, exponent_is_least n p lp d a b same count is before)
+-- a letter is such a step
+one_step : (n : ℕ) (inverse : Bool) (p : ℕ) (a b : ScaledTable) → SameTable n b (stepped n (letter_step inverse p) a) → SameTable n b (behind n inverse p a)
+one_step n true p a b same = same
+one_step n false p a b same = same
+
+-- it changes the least exponent by at most one
+pub exponent_steps : (n : ℕ) (inverse : Bool) (p : ℕ) → p < 4 ^ n → p ≢ 0 → (a b : ScaledTable) → SameTable n b (stepped n (letter_step inverse p) a) → HasLeastExponent n a → HasLeastExponent n b
+    → (b.exponent ≤ a.exponent + 1) × (a.exponent ≤ b.exponent + 1)
+exponent_steps n inverse p lp d a b same before after = let step = one_step n inverse p a b same in (rise n inverse p lp d a b step after, fall n inverse p lp d a b step before)
+
+-- and by how much, the divisions tell
+pub exponent_by_divisions : (n : ℕ) (inverse : Bool) (p : ℕ) → p < 4 ^ n → p ≢ 0 → (a b : ScaledTable) → SameTable n b (stepped n (letter_step inverse p) a) → HasLeastExponent n a
+    → (count : ℕ) → IsDivisionCount n (rotated n inverse p a.table) count → HasLeastExponent n b ↔ (b.exponent ≡ a.exponent + 1 - count)
+exponent_by_divisions n inverse p lp d a b same before count is =
+    let step = one_step n inverse p a b same in
+    (exponent_is n inverse p lp d a b step count is before, exponent_is_least n inverse p lp d a b step count is before)

@@ -1,5 +1,5 @@
 -- How often a rotation's product can be divided by √2.
-use Rattle.std.proofs.Common.{◌≡◌, ℕ, suc, ◌*◌, ◌/◌, ◌^◌, ◌<◌, ◌↔◌, Bool, ap, sym, ◌∙◌, arith, inl, inr}
+use Rattle.std.proofs.Common.{◌≡◌, ℕ, suc, ◌/◌, ◌^◌, ◌<◌, ◌↔◌, Bool, ap, sym, ◌∙◌, arith}
 use Rattle.std.specs.Prelude.{ℤ, pos, negsuc, neg_ℤ, ◌*ℤ◌}
 use Rattle.std.proofs.lemmas.Int.{ints}
 use Rattle.ring_laws.specs.Ring.{power}
@@ -24,6 +24,7 @@ pub root2_to-suc : (k : ℕ) (x : Surd) → surd_times (root2_to (suc k)) x ≡ 
 unfolding power
 root2_to-suc k x = surd_times_assoc root2_surd (root2_to k) x
 
+-- one, two and three factors
 root2_to-one : (x : Surd) → surd_times (root2_to 1) x ≡ surd_times root2_surd x
 root2_to-one x = root2_to-suc 0 x ∙ ap (surd_times root2_surd) (root2_to-zero x)
 

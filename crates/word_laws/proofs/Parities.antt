@@ -1,6 +1,6 @@
 -- The parities of a rotation's numbers, from those of the numbers before.
 use Rattle.std.proofs.Common.{◌≡◌, ◌↔◌, ℕ, ◌^◌, ◌<◌, Bool, true, false, not, ap, sym, ◌∙◌, arith, inl, inr, ◌⊎◌, zero, suc, subst}
-use Rattle.std.specs.Prelude.{ℤ, pos, neg_ℤ, ◌+ℤ◌, ◌*ℤ◌}
+use Rattle.std.specs.Prelude.{pos, neg_ℤ, ◌+ℤ◌, ◌*ℤ◌}
 use Rattle.std.proofs.lemmas.Bool.{cases_Bool, cases_eq, cases_lt}
 use Rattle.std.proofs.lemmas.Int.{ints}
 use Rattle.tc_ring.specs.Surds.{Surd, surd_plus, surd_times, surd_negative, root2_surd, IsOdd}
@@ -85,6 +85,7 @@ module _ (n : ℕ) (inverse : Bool) (p : ℕ) (m : SurdTable) where
     half_whole : (row column : ℕ) → row < 4 ^ n → column < 4 ^ n → (half row column).a ≡ (rotated n inverse p m row column).b
     half_whole row column l h = sym (root2_part (half row column) _ (sym (is row column l h)))
 
+    -- exactly where these conditions hold
     pub even_half : AllEven n half ↔ (CommutingEven n p m × PartsAgree n p m)
     even_half = (λ even. (wholes even, parts even), λ both. back both.0 both.1)
       where

@@ -1,6 +1,6 @@
 -- The channel of a word is 0 outside the blocks of its letters' span.
 use Rattle.std.proofs.Common.{◌≡◌, ◌≢◌, ℕ, ◌^◌, ◌<◌, Bool, true, false, List, [], ◌∷◌, ◌++◌, bit_xor, not, refl, ap, sym, ◌∙◌, subst, inl, inr}
-use Rattle.std.specs.Int.Bits.{xor_self, xor_assoc, xor_zero_l, xor_zero_r}
+use Rattle.std.specs.Int.Bits.{xor_self, xor_assoc}
 use Rattle.std.specs.Prelude.{if◌then◌else◌}
 use Rattle.ring_laws.specs.Matrix.{identity}
 use Rattle.ring_laws.proofs.Ring.{mul-zero}
@@ -41,10 +41,6 @@ rotated-zero n p m row column e d = by (commute n p row) (turned_over false (not
     by : (b s : Bool) → (if b then surd_times root2_surd (m row column) else surd_plus (m row column) (signed s (m (product_code p row) column))) ≡ zero_surd
     by true s = ap (surd_times root2_surd) e ∙ mul-zero surds_laws root2_surd
     by false s = (λ i. surd_plus (e i) (signed s (d i))) ∙ ap (surd_plus zero_surd) (signed-zero s) ∙ surd_plus-zero zero_surd
-
--- codes whose exclusive or is 0 are one
-one_code : (x y : ℕ) → product_code x y ≡ 0 → x ≡ y
-one_code x y e = sym (xor_zero_r x) ∙ ap (bit_xor x) (sym (xor_self y)) ∙ sym (xor_assoc x y y) ∙ ap (λ z. bit_xor z y) e ∙ xor_zero_l y
 
 -- the channel of a word as it is built
 pub sparse_word : (n : ℕ) (word : List ℕ) → IsWord n word → (row column : ℕ) → row < 4 ^ n → ¬ IsInSpan word (product_code row column) → (word_channel n word).table row column ≡ zero_surd

@@ -4,13 +4,13 @@
 use Rattle.std.specs.Prelude.{◌≡◌, ◌≢◌, ◌↔◌, ℕ, ◌+◌, ◌-◌, ◌^◌, ◌<◌, ◌≤◌, Bool, true, false, List, ◌∷◌, ◌++◌}
 use Rattle.tc_ring.specs.Surds.{zero_surd}
 use Rattle.pauli_basis.specs.Products.{product_code, commute}
-use Rattle.channel_rep.specs.Tables.{SurdTable, ScaledTable, by_rotation, stepped, SameTable, IsBuiltOf, IsCircuitChannel}
+use Rattle.channel_rep.specs.Tables.{SurdTable, ScaledTable, stepped, SameTable, IsBuiltOf, IsCircuitChannel}
 use Rattle.channel_rep.specs.Rows.{rotated}
 use Rattle.channel_rep.specs.Words.{IsWord}
 use Rattle.coset_label.specs.Words.{word_steps, word_channel}
 use Rattle.coset_label.specs.Labels.{HasOddEntry, HasLeastExponent}
 use Rattle.coset_label.specs.Cosets.{SameCoset, SameCosetWords, IsSignedPermutationTable}
-use Rattle.word_laws.specs.Divisions.{IsMultiple, IsDivisionCount}
+use Rattle.word_laws.specs.Divisions.{IsMultiple, IsDivisionCount, letter_step}
 use Rattle.word_laws.specs.Parities.{WholesAgree, PartsAgree, CommutingEven}
 use Rattle.word_laws.specs.Rests.{taken_off}
 use Rattle.word_laws.specs.Spans.{IsInSpan, IsSubspace}
@@ -42,15 +42,15 @@ RotationsDivideTwice = (n : ℕ) (inverse : Bool) (p : ℕ) (m : SurdTable)
 abbrev pub RotationsDivideNoMore : Type 0
 RotationsDivideNoMore = (n : ℕ) (inverse : Bool) (p : ℕ) → p < 4 ^ n → (m : ScaledTable) → HasOddEntry n m → ¬ IsMultiple n 3 (rotated n inverse p m.table)
 
--- one letter changes the least exponent by at most one
+-- a letter before a table, or its inverse, changes the least exponent by at most one
 abbrev pub ExponentsStepByOne : Type 0
-ExponentsStepByOne = (n p : ℕ) → p < 4 ^ n → p ≢ 0 → (a b : ScaledTable) → SameTable n b (stepped n (by_rotation p) a) → HasLeastExponent n a → HasLeastExponent n b
+ExponentsStepByOne = (n : ℕ) (inverse : Bool) (p : ℕ) → p < 4 ^ n → p ≢ 0 → (a b : ScaledTable) → SameTable n b (stepped n (letter_step inverse p) a) → HasLeastExponent n a → HasLeastExponent n b
     → (b.exponent ≤ a.exponent + 1) × (a.exponent ≤ b.exponent + 1)
 
--- behind a letter more the least exponent is the one before and 1, less the number of divisions, or 0 where these are more
+-- behind it the least exponent is the one before and 1, less the number of divisions, or 0 where these are more
 abbrev pub DivisionsTellExponents : Type 0
-DivisionsTellExponents = (n p : ℕ) → p < 4 ^ n → p ≢ 0 → (a b : ScaledTable) → SameTable n b (stepped n (by_rotation p) a) → HasLeastExponent n a
-    → (count : ℕ) → IsDivisionCount n (rotated n false p a.table) count → HasLeastExponent n b ↔ (b.exponent ≡ a.exponent + 1 - count)
+DivisionsTellExponents = (n : ℕ) (inverse : Bool) (p : ℕ) → p < 4 ^ n → p ≢ 0 → (a b : ScaledTable) → SameTable n b (stepped n (letter_step inverse p) a) → HasLeastExponent n a
+    → (count : ℕ) → IsDivisionCount n (rotated n inverse p a.table) count → HasLeastExponent n b ↔ (b.exponent ≡ a.exponent + 1 - count)
 
 -- rotations by letters that commute may be made in either order
 abbrev pub RotationsExchange : Type 0
