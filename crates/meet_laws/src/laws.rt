@@ -1,7 +1,7 @@
 //! The facts on which the search in the middle rests.
 //!
 //! Each of these functions does nothing. Its contract is the law, for a caller's proof to use.
-ghost use Rattle.meet_laws.specs.Laws.{TablesCompare, BuiltTablesAreChannels, PartsAreLeast, LeastCountsExist, LeastCountsAreLengths, CountsPassBounds, WordsStandBehindRests, RestsArePermutations, LeastWordsMakeCircuits, EvenTotals, OddTotals};
+ghost use Rattle.meet_laws.specs.Laws.{TablesCompare, BuiltTablesAreChannels, PartsAreLeast, LeastCountsExist, LeastCountsAreLengths, CountsPassBounds, WordsStandBehindRests, RestsArePermutations, RestsHaveGrids, LeastWordsMakeCircuits, EvenTotals, OddTotals};
 
 /// Tables compare by their entries, whatever their powers of √2, and those that a circuit's steps build are circuits' channels.
 pub fn channels_compare()
@@ -26,6 +26,7 @@ pub fn least_counts_are_lengths()
 pub fn words_stand_behind_rests()
     ensures same { WordsStandBehindRests }
     ensures permutation { RestsArePermutations }
+    ensures grid { RestsHaveGrids }
     ensures least { LeastWordsMakeCircuits }
 {}
 

@@ -10,3 +10,4 @@ pub mod Outcomes
 pub mod Names
 mod Small
 mod Halving
+mod Refusing

@@ -1,5 +1,5 @@
 // What holds of the definitions.
-ghost use Rattle.std.specs.Prelude.{◌≡◌, ◌⊎◌, ℕ, ◌<◌, ◌≤◌, List};
+ghost use Rattle.std.specs.Prelude.{◌≡◌, ◌⊎◌, ℕ, ◌<◌, ◌≤◌, List, length};
 ghost use Rattle.tc_circuit.specs.Circuit.{Gates};
 ghost use Rattle.tc_circuit.specs.Model.{IsCircuit, t_count_of};
 ghost use Rattle.qasm_reader.specs.Limits.{most_qubits, most_t_gates};
@@ -24,6 +24,11 @@ pub fn read_circuits_are_small()
     ensures few { (text : List ℕ) (c : Gates) → Reads text c → c.qubits ≤ most_qubits }
     ensures fit { (text : List ℕ) (c : Gates) → Reads text c → IsCircuit c.qubits c.gates }
     ensures low { (text : List ℕ) (c : Gates) → Reads text c → t_count_of c.gates ≤ most_t_gates }
+{}
+
+/// A text is refused at a place of it, or at its end.
+pub fn refusals_stand_in_texts()
+    ensures { (text : List ℕ) (n p : ℕ) → Refused text n p → p ≤ length text }
 {}
 
 /// Every text has two halves, has none, or has a bad byte; it has one alone of these, and its halves at one place.
