@@ -19,7 +19,7 @@ use Rattle.circuit_writer.specs.Shown.{IsLetter, IsWord, shown}
 use Rattle.clifford_rest.specs.Laws.{PermutationsHaveCircuits}
 use Rattle.clifford_rest.specs.Rest.{rest_of}
 use Rattle.count_checker.specs.Check.{most_h_gates, AreSame}
-use Rattle.tc_bridge.specs.Block.{as_gates, undone, letter_to_z, to_z, highest, gather, rising, opening, block, word_gates}
+use Rattle.tc_bridge.specs.Block.{as_gates, inverse_gate, undone, letter_to_z, to_z, highest, gather, rising, opening, block, word_gates}
 use Rattle.tc_bridge.specs.Steps.{steps_of}
 use Rattle.level_laws.specs.Laws.{RestsAreCircuits}
 use Rattle.meet_laws.specs.Laws.{TablesCompare, BuiltTablesAreChannels, LeastCountsAreLengths, RestsArePermutations, RestsHaveGrids, LeastWordsMakeCircuits}
@@ -29,8 +29,8 @@ use Rattle.tcount_top.specs.declared.command.TextCommand.TheVariants.{Synth, Che
 use Rattle.tcount_top.specs.declared.command.Command.TheVariants.{OverText, Levels}
 use Rattle.tcount_top.specs.Lines.{too_long_line, refusal_line, limit_line, above_line, no_halves_line, many_h_line, same_line, different_line, levels_line}
 use Rattle.tcount_top.specs.Laws.{OutcomesExist, LeastCountsExist}
-use Rattle.tcount_top.specs.Out.{SynthOut, CircuitsOut, ProgramsOut, CheckOut, ShowsLike, longest, most_bound, command, too_long, refused, past_limit, found, above, many_h, are_same, differ, first_refused, second_refused, both_read, overlong, bad_byte, no_halves, halved}
-use Rattle.tcount_top.specs.Printed.{word_texts}
+use Rattle.tcount_top.specs.Out.{SynthOut, IsTaken, CircuitsOut, ProgramsOut, CheckOut, ShowsLike, longest, most_bound, command, too_long, refused, past_limit, found, above, many_h, are_same, differ, first_refused, second_refused, both_read, overlong, bad_byte, no_halves, halved}
+use Rattle.tcount_top.specs.Printed.{IsLeft, word_texts}
 use Rattle.tcount_top.proofs.Words.{most_nine}
 use Rattle.tcount_top.proofs.Printing.{left_permutes, left_channel, PrintsRead, IsMade, made_shows}
 
@@ -62,7 +62,7 @@ length-as_gates (g ∷ gates) = ap suc (length-as_gates gates)
 
 length-undone : (gates : List ChannelGate) → length (undone gates) ≡ length gates
 length-undone [] = refl
-length-undone (g ∷ gates) = omega (arith, length-append (undone gates) (_ ∷ []), length-undone gates)
+length-undone (g ∷ gates) = omega (arith, length-append (undone gates) (inverse_gate g ∷ []), length-undone gates)
 
 short_block : (n p : ℕ) → n ≤ 3 → length (block n p) ≤ 25
 short_block n p few =
@@ -110,7 +110,7 @@ shows_exist laws c small t least few =
     let channel : IsCircuitChannel n m = laws.built n c.gates small.fit m (λ row column low below. refl) in
     let rest = laws.grids n small.some small.few m channel w word.1.member in
     let left : ChannelGrid = rest.0 in
-    let is = record { qubits = rest.1.qubits; grid = rest.1.grid; reduced = rest.1.reduced; table = rest.1.table } in
+    let is : IsLeft n m w left = record { qubits = rest.1.qubits; grid = rest.1.grid; reduced = rest.1.reduced; table = rest.1.table } in
     let clifford = laws.cliffords left record {
       some = rest.1.grid.some;
       few = rest.1.grid.few;
@@ -152,7 +152,7 @@ module _ (showing : Showing) (reader : Reader) where
   bounded : (bound : ℕ) (text : List ℕ) (c : Gates) → length text ≤ longest → Reads text c → bound ≤ most_bound c.qubits → HasOutcome (SynthOut bound text)
   bounded bound text c short reads low =
       let t = reader.counted text c reads in
-      let taken = record { short = short; reads = reads; low = low } in
+      let taken : IsTaken text c bound = record { short = short; reads = reads; low = low } in
       elim (cases_lt bound t.0) [
         | inl over ↦ (Above, above_line bound, above c taken t.0 t.1 over)
         | inr within ↦ let shown = shows_exist showing c (reader.small text c reads) t.0 t.1 (omega (arith, within, low, most_nine c.qubits)) in (Found, shown.0, found c taken t.0 t.1 within shown.0 shown.1)
@@ -176,8 +176,8 @@ module _ (showing : Showing) (reader : Reader) where
     | inr few ↦ elim (cases_lt most_h_gates (h_count_of d.gates)) [
       | inl many ↦ (Refused, many_h_line (h_count_of d.gates), many_h (h_count_of d.gates) (inr (few, many, refl)))
       | inr also ↦ elim (reader.same_or_not c d) [
-        | inl yes ↦ (Found, same_line, are_same (few, also) yes)
-        | inr no ↦ (Above, different_line, differ (few, also) no)
+        | inl is ↦ (Found, same_line, are_same (few, also) is)
+        | inr other ↦ (Above, different_line, differ (few, also) other)
       ]
     ]
   ]

@@ -3,9 +3,8 @@ use Rattle.std.proofs.Common.{◌≡◌, ℕ, ◌+◌, ◌<◌, ◌≤◌, List,
 use Rattle.qasm_lex.specs.Tokens.{Bad}
 use Rattle.tc_circuit.specs.Circuit.{Gates, IsSmallCircuit}
 use Rattle.tc_circuit.specs.Model.{Same}
-use Rattle.qasm_reader.specs.declared.refusal.Refusal.TheVariants.{BadByte}
 use Rattle.qasm_reader.specs.Halves.{HasHalves, HasNoHalves}
-use Rattle.qasm_reader.specs.Read.{Reads, Refused as IsRefused, IsBad}
+use Rattle.qasm_reader.specs.Read.{Reads, Refused as IsRefused}
 use Rattle.count_checker.specs.Check.{IsTooManyH}
 use Rattle.tcount_top.specs.declared.top.Status.{Status}
 use Rattle.tcount_top.specs.Lines.{refusal_line, many_h_line}
@@ -21,14 +20,11 @@ pub record Reading : Type 0 where
 
 -- the laws of texts that are cut
 pub record Halving : Type 0 where
+  pub bad : (text : List ℕ) (p q : ℕ) → Bad text p → Bad text q → p ≡ q
   pub place : (text : List ℕ) (p q : ℕ) → HasHalves text p → HasHalves text q → p ≡ q
   pub never_none : (text : List ℕ) (p : ℕ) → HasHalves text p → HasNoHalves text → ⊥
   pub never_bad : (text : List ℕ) (p q : ℕ) → HasHalves text p → Bad text q → ⊥
   pub none_never_bad : (text : List ℕ) (q : ℕ) → HasNoHalves text → Bad text q → ⊥
-
--- a bad byte is a refusal
-bad_refused : (text : List ℕ) (p : ℕ) → Bad text p → IsRefused text 2 p
-bad_refused text p b = (BadByte, IsBad b refl, refl)
 
 -- ---- circuits
 -- not too many h gates are few
@@ -80,7 +76,7 @@ module _ (reading : Reading) where
   one_check halving text s t a b (overlong l) (no_halves m n) = absurd (omega (arith, l, m))
   one_check halving text s t a b (overlong l) (halved m cut h v f out) = absurd (omega (arith, l, m))
   one_check halving text s t a b (bad_byte l p w) (overlong m) = absurd (omega (arith, l, m))
-  one_check halving text s t a b (bad_byte l p w) (bad_byte m q w') = (refl, one_line text 0 2 p 2 q (bad_refused text p w) (bad_refused text q w'))
+  one_check halving text s t a b (bad_byte l p w) (bad_byte m q w') = (refl, ap (refusal_line 2) (halving.bad text p q w w'))
   one_check halving text s t a b (bad_byte l p w) (no_halves m n) = absurd (halving.none_never_bad text p n w)
   one_check halving text s t a b (bad_byte l p w) (halved m cut h v f out) = absurd (halving.never_bad text cut p h w)
   one_check halving text s t a b (no_halves l n) (overlong m) = absurd (omega (arith, l, m))

@@ -9,6 +9,7 @@ use count_checker::sameness_is_decided;
 use level_laws::laws::{cosets_have_least_words, letters_come_off};
 use meet_laws::laws::{channels_compare, least_counts_are_lengths, words_stand_behind_rests};
 use printed_texts::printed_texts_read_back;
+use qasm_lex::one_cut;
 use qasm_reader::{one_halving, one_reading, read_circuits_are_small};
 use tc_bridge::laws::{circuits_have_one_channel, one_channel_where_same};
 use tc_ring::surd_laws_hold;
@@ -41,6 +42,7 @@ pub fn one_outcome()
 {
     circuits_have_one_channel();
     one_channel_where_same();
+    one_cut();
     one_halving();
     one_reading();
     read_circuits_are_small();
