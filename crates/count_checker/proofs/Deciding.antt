@@ -8,7 +8,7 @@ use Rattle.ring_laws.specs.Ring.{power}
 use Rattle.ring_laws.specs.Cyclotomic.{Zω, cyclotomics, times, ω, root2}
 use Rattle.ring_laws.proofs.Cyclotomic.{coordinatewise}
 use Rattle.tc_circuit.specs.Circuit.{Gates}
-use Rattle.tc_circuit.specs.Model.{ScaledMatrix, matrix_of, SameUpTo, Same}
+use Rattle.tc_circuit.specs.Model.{ScaledMatrix, matrix_of, SameUpTo}
 use Rattle.count_checker.specs.Check.{AreSame}
 
 -- a test at each number below one, and at some

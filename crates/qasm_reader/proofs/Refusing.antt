@@ -1,11 +1,11 @@
 -- Where a text is refused: at a place of it, or at its end.
-use Rattle.std.proofs.Common.{◌≡◌, ℕ, ◌<◌, ◌≤◌, Bool, true, false, cond, List, [], ◌∷◌, ◌++◌, length, map, Option, Some, None, Ok, Err, refl, ap, sym, ◌∙◌, subst, arith}
+use Rattle.std.proofs.Common.{◌≡◌, ℕ, ◌≤◌, true, false, cond, List, [], ◌∷◌, ◌++◌, length, map, Some, None, Err, sym, subst, arith}
 use Rattle.std.specs.Prelude.{All}
 use Rattle.std.proofs.lemmas.List.Elements.{All-nil, All-cons, All-head, All-tail, All-append}
 use Rattle.qasm_lex.specs.declared.token.Kind.TheVariants.{Semi}
 use Rattle.qasm_lex.specs.declared.token.Token.{Token}
 use Rattle.qasm_lex.specs.Tokens.{Cuts}
-use Rattle.qasm_reader.specs.Lexemes.{Lexeme, lexeme_of, is_kind, cut_behind, statements}
+use Rattle.qasm_reader.specs.Lexemes.{Lexeme, lexeme_of, is_kind, cut_behind}
 use Rattle.qasm_reader.specs.State.{State, start, after}
 use Rattle.qasm_reader.specs.Rows.{Statement, row_of}
 use Rattle.qasm_reader.specs.Read.{Refuser, Refused, HasLexemes, HasStatements, IsBad, IsHeadless, IsRefused, IsEmpty, scan, refused_or, place_of}

@@ -1,5 +1,6 @@
 -- What writing an outcome makes of a run.
 use Rattle.std.proofs.Common.{◌≡◌, ◌⊎◌, ℕ, ◌<◌, List, [], ◌++◌, length, arith, sym, ap, ◌∙◌, subst, refl, inl, inr, None, Some}
+use Rattle.std.specs.Prelude.{⊤}
 use Rattle.std.specs.declared.option.Option.{Option}
 use Rattle.std.proofs.lemmas.List.{length-append, append-nil}
 use Rattle.std.specs.Io.KnownBytes.{Consumes}
@@ -7,14 +8,13 @@ use Rattle.tc_circuit.specs.Circuit.{Gates}
 use Rattle.tc_io.specs.Stream.{ReadsAll, TakesFront, TakesAtMost}
 use Rattle.tcount_top.specs.declared.command.TextCommand.{TextCommand}
 use Rattle.tcount_top.specs.declared.command.TextCommand.TheVariants.{Synth, Check}
-use Rattle.tcount_top.specs.declared.command.Command.{Command}
 use Rattle.tcount_top.specs.declared.command.Command.TheVariants.{OverText, Levels}
 use Rattle.tcount_top.specs.Words.{IsLevels, SpellText, IsCommand, AskText}
 use Rattle.tcount_top.specs.Lines.{usage_line, too_long_line, levels_line}
 use Rattle.tcount_top.specs.Out.{Out, SynthOut, CircuitsOut, ProgramsOut, CheckOut, TextOut, longest, usage, command, too_long, refused, past_limit, found, above, many_h, are_same, differ, first_refused, second_refused, both_read, overlong, bad_byte, no_halves, halved}
 use Rattle.tcount_top.specs.Run.{Device, Answers, Responds, TakesText, OnContent, IsOutcome, IsSound, IsUntouched, Failed}
 use Rattle.tcount_top.specs.declared.top.Status.{Status}
-use Rattle.tcount_top.specs.declared.top.Status.TheVariants.{Found, Refused, Usage, ReadFault, WriteFault, NoMemory}
+use Rattle.tcount_top.specs.declared.top.Status.TheVariants.{Found, Above, Refused, Usage, ReadFault, WriteFault, NoMemory}
 use Rattle.tcount_top.proofs.Words.{one_command}
 
 -- a weaker claim on the content
@@ -106,33 +106,63 @@ responded words source sink wanted status bytes is out took (inr h) = record {
   at_most = took.at_most;
 }
 
--- no outcome of a text is want of memory or a fault
-synth_is_outcome : (bound : ℕ) (text : List ℕ) (status : Status) (bytes : List ℕ) → SynthOut bound text status bytes → IsOutcome status
-synth_is_outcome bound text status bytes (too_long l) = tt
-synth_is_outcome bound text status bytes (refused l number place r) = tt
-synth_is_outcome bound text status bytes (past_limit l c r o) = tt
-synth_is_outcome bound text status bytes (found c t k l w b s) = tt
-synth_is_outcome bound text status bytes (above c t k l o) = tt
+-- the outcome of a text is Found, Above or Refused
+abbrev pub IsAnswer : Status → Type 0
+IsAnswer Found = ⊤
+IsAnswer Above = ⊤
+IsAnswer Refused = ⊤
+IsAnswer Usage = ⊥
+IsAnswer ReadFault = ⊥
+IsAnswer WriteFault = ⊥
+IsAnswer NoMemory = ⊥
 
-circuits_are_outcome : (c d : Gates) (status : Status) (bytes : List ℕ) → CircuitsOut c d status bytes → IsOutcome status
-circuits_are_outcome c d status bytes (many_h count m) = tt
-circuits_are_outcome c d status bytes (are_same few s) = tt
-circuits_are_outcome c d status bytes (differ few o) = tt
+synth_answer : (bound : ℕ) (text : List ℕ) (status : Status) (bytes : List ℕ) → SynthOut bound text status bytes → IsAnswer status
+synth_answer bound text status bytes (too_long l) = tt
+synth_answer bound text status bytes (refused l number place r) = tt
+synth_answer bound text status bytes (past_limit l c r o) = tt
+synth_answer bound text status bytes (found c t k l w b s) = tt
+synth_answer bound text status bytes (above c t k l o) = tt
 
-programs_are_outcome : (cut : ℕ) (x y : List ℕ) (status : Status) (bytes : List ℕ) → ProgramsOut cut x y status bytes → IsOutcome status
-programs_are_outcome cut x y status bytes (first_refused number place r) = tt
-programs_are_outcome cut x y status bytes (second_refused c h number place r) = tt
-programs_are_outcome cut x y status bytes (both_read c d hc hd s b out) = circuits_are_outcome c d s b out
+circuits_answer : (c d : Gates) (status : Status) (bytes : List ℕ) → CircuitsOut c d status bytes → IsAnswer status
+circuits_answer c d status bytes (many_h count m) = tt
+circuits_answer c d status bytes (are_same few s) = tt
+circuits_answer c d status bytes (differ few o) = tt
 
-check_is_outcome : (text : List ℕ) (status : Status) (bytes : List ℕ) → CheckOut text status bytes → IsOutcome status
-check_is_outcome text status bytes (overlong l) = tt
-check_is_outcome text status bytes (bad_byte l place b) = tt
-check_is_outcome text status bytes (no_halves l h) = tt
-check_is_outcome text status bytes (halved l cut h s b out) = programs_are_outcome cut _ _ s b out
+programs_answer : (cut : ℕ) (x y : List ℕ) (status : Status) (bytes : List ℕ) → ProgramsOut cut x y status bytes → IsAnswer status
+programs_answer cut x y status bytes (first_refused number place r) = tt
+programs_answer cut x y status bytes (second_refused c h number place r) = tt
+programs_answer cut x y status bytes (both_read c d hc hd s b out) = circuits_answer c d s b out
 
-text_is_outcome : (asked : TextCommand) (text : List ℕ) (status : Status) (bytes : List ℕ) → TextOut asked text status bytes → IsOutcome status
-text_is_outcome (Synth bound workers) text status bytes out = synth_is_outcome bound text status bytes out
-text_is_outcome Check text status bytes out = check_is_outcome text status bytes out
+check_answer : (text : List ℕ) (status : Status) (bytes : List ℕ) → CheckOut text status bytes → IsAnswer status
+check_answer text status bytes (overlong l) = tt
+check_answer text status bytes (bad_byte l place b) = tt
+check_answer text status bytes (no_halves l h) = tt
+check_answer text status bytes (halved l cut h s b out) = programs_answer cut _ _ s b out
+
+pub text_answer : (asked : TextCommand) (text : List ℕ) (status : Status) (bytes : List ℕ) → TextOut asked text status bytes → IsAnswer status
+text_answer (Synth bound workers) text status bytes out = synth_answer bound text status bytes out
+text_answer Check text status bytes out = check_answer text status bytes out
+
+-- that is neither want of memory nor a fault
+answer_is_outcome : (status : Status) → IsAnswer status → IsOutcome status
+answer_is_outcome Found v = tt
+answer_is_outcome Above v = tt
+answer_is_outcome Refused v = tt
+answer_is_outcome Usage v = tt
+answer_is_outcome ReadFault v = absurd v
+answer_is_outcome WriteFault v = absurd v
+answer_is_outcome NoMemory v = absurd v
+
+-- so where it was handed to the sink, a run answers no want of memory, no fault of reading and no usage
+pub never_silent : (sink : Device) (bytes : List ℕ) (wanted status : Status) → IsAnswer wanted → Responds sink bytes wanted status → (status ≡ NoMemory) ⊎ (status ≡ ReadFault) → ⊥
+never_silent sink bytes wanted status v (inl h) (inl e) = subst IsAnswer (sym h.0 ∙ e) v
+never_silent sink bytes wanted status v (inl h) (inr e) = subst IsAnswer (sym h.0 ∙ e) v
+never_silent sink bytes wanted status v (inr h) (inl e) = let f : WriteFault ≡ NoMemory = sym h.0 ∙ e in cc
+never_silent sink bytes wanted status v (inr h) (inr e) = let f : WriteFault ≡ ReadFault = sym h.0 ∙ e in cc
+
+pub never_usage : (sink : Device) (bytes : List ℕ) (wanted status : Status) → IsAnswer wanted → Responds sink bytes wanted status → status ≡ Usage → ⊥
+never_usage sink bytes wanted status v (inl h) e = subst IsAnswer (sym h.0 ∙ e) v
+never_usage sink bytes wanted status v (inr h) e = let f : WriteFault ≡ Usage = sym h.0 ∙ e in cc
 
 -- what each command answers to a text that is too long
 too_long_out : (asked : TextCommand) (text : List ℕ) → longest < length text → TextOut asked text Refused too_long_line
@@ -144,7 +174,7 @@ pub read_answers : (words : List (List ℕ)) (source sink : Device) (asked : Tex
     → ReadsAll longest source.bytes_before source.bytes_after text → TextOut asked text wanted bytes → Responds sink bytes wanted status → Answers words source sink status
 read_answers words source sink asked is wanted status text bytes sound all due response =
     let ends = content_read source.bytes_before source.bytes_after text in
-    responded words source sink wanted status bytes (text_is_outcome asked text wanted bytes due) (ends _ all (command (OverText asked) is due))
+    responded words source sink wanted status bytes (answer_is_outcome wanted (text_answer asked text wanted bytes due)) (ends _ all (command (OverText asked) is due))
     record { sound = sound; text = λ _. ends (TakesText source) all (record { whole = λ _. all; front = λ long. absurd (omega (arith, all.short, long)) }); at_most = takes_all _ _ text all }
     response
 

@@ -1,5 +1,5 @@
 -- What comparing the programs of a text finds out is the outcome of `check`.
-use Rattle.std.proofs.Common.{◌≡◌, ◌↔◌, ℕ, ◌+◌, ◌≤◌, Bool, true, false, List, length, take, drop, refl, sym, subst}
+use Rattle.std.proofs.Common.{◌↔◌, ℕ, ◌+◌, ◌≤◌, Bool, true, false, List, length, take, drop, refl, sym, subst}
 use Rattle.std.specs.Prelude.{IsTrue}
 use Rattle.tc_circuit.specs.Circuit.{Gates}
 use Rattle.qasm_reader.specs.declared.fault.ReadFault.{ReadFault}

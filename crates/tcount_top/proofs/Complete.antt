@@ -1,5 +1,5 @@
 -- Where a command accepts the source's content and no device fails, the answer is Found, Above or want of memory.
-use Rattle.std.proofs.Common.{◌≡◌, ◌⊎◌, ℕ, ◌<◌, List, length, take, drop, Some, refl, ap, sym, subst, inl, inr, arith}
+use Rattle.std.proofs.Common.{◌≡◌, ◌⊎◌, ℕ, List, take, drop, refl, ap, subst, inl, inr, arith}
 use Rattle.qasm_lex.specs.Tokens.{Bad}
 use Rattle.tc_circuit.specs.Circuit.{Gates}
 use Rattle.qasm_reader.specs.Halves.{HasHalves, HasNoHalves}
@@ -12,7 +12,7 @@ use Rattle.tcount_top.specs.declared.command.Command.TheVariants.{OverText, Leve
 use Rattle.tcount_top.specs.Words.{Spell}
 use Rattle.tcount_top.specs.Laws.{Accepts, AreTaken, AnswersAreComplete}
 use Rattle.tcount_top.specs.Out.{Out, SynthOut, IsTaken, CircuitsOut, ProgramsOut, CheckOut, CommandOut, AreFewH, most_bound, usage, command, too_long, refused, past_limit, found, above, many_h, are_same, differ, first_refused, second_refused, both_read, overlong, bad_byte, no_halves, halved}
-use Rattle.tcount_top.specs.Run.{Device, Answers, OnContent, WritesOutcome, IsOutcome, Failed}
+use Rattle.tcount_top.specs.Run.{OnContent, WritesOutcome}
 use Rattle.tcount_top.proofs.OneCheck.{not_many}
 use Rattle.tcount_top.proofs.Words.{one_command}
 
@@ -40,8 +40,8 @@ module _ (reader : Reader) where
 
   circuits_answered : (c d : Gates) → AreFewH c d → (s : Status) (b : List ℕ) → CircuitsOut c d s b → IsAnswered s
   circuits_answered c d few s b (many_h count many) = not_many c d count many few
-  circuits_answered c d few s b (are_same also yes) = inl refl
-  circuits_answered c d few s b (differ also no) = inr refl
+  circuits_answered c d few s b (are_same also is) = inl refl
+  circuits_answered c d few s b (differ also other) = inr refl
 
   programs_answered : (cut : ℕ) (x y : List ℕ) (c d : Gates) → Reads x c → Reads y d → AreFewH c d → (s : Status) (b : List ℕ) → ProgramsOut cut x y s b → IsAnswered s
   programs_answered cut x y c d hc hd few s b (first_refused n p r) = absurd (reader.never_both x c n p hc r)

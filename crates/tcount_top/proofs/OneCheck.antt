@@ -1,5 +1,5 @@
 -- `check` has one outcome for a text.
-use Rattle.std.proofs.Common.{◌≡◌, ℕ, ◌+◌, ◌<◌, ◌≤◌, List, length, take, drop, refl, ap, sym, ◌∙◌, subst, inl, inr, arith}
+use Rattle.std.proofs.Common.{◌≡◌, ℕ, ◌+◌, List, take, drop, refl, ap, sym, ◌∙◌, subst, inl, inr, arith}
 use Rattle.qasm_lex.specs.Tokens.{Bad}
 use Rattle.tc_circuit.specs.Circuit.{Gates, IsSmallCircuit}
 use Rattle.tc_circuit.specs.Model.{Same}
@@ -52,16 +52,16 @@ one_circuits c d s t a b (differ few o) (differ few' o') = (refl, refl)
 
 -- ---- programs and texts
 module _ (reading : Reading) where
-  -- a refusal is one, whatever its place is added to
-  one_line : (text : List ℕ) (cut n p m q : ℕ) → IsRefused text n p → IsRefused text m q → refusal_line n (cut + p) ≡ refusal_line m (cut + q)
-  one_line text cut n p m q r r' = let e = reading.refusal text n p m q r r' in ap (λ (k : ℕ). refusal_line k (cut + p)) e.0 ∙ ap (λ (k : ℕ). refusal_line m (cut + k)) e.1
+  -- a refusal has one line
+  one_line : (line : ℕ → ℕ → List ℕ) (text : List ℕ) (n p m q : ℕ) → IsRefused text n p → IsRefused text m q → line n p ≡ line m q
+  one_line line text n p m q r r' = let e = reading.refusal text n p m q r r' in ap (λ (k : ℕ). line k p) e.0 ∙ ap (line m) e.1
 
   one_programs : (cut : ℕ) (x y : List ℕ) (s t : Status) (a b : List ℕ) → ProgramsOut cut x y s a → ProgramsOut cut x y t b → (s ≡ t) × (a ≡ b)
-  one_programs cut x y s t a b (first_refused n p r) (first_refused m q r') = (refl, one_line x 0 n p m q r r')
+  one_programs cut x y s t a b (first_refused n p r) (first_refused m q r') = (refl, one_line refusal_line x n p m q r r')
   one_programs cut x y s t a b (first_refused n p r) (second_refused c h m q r') = absurd (reading.never_both x c n p h r)
   one_programs cut x y s t a b (first_refused n p r) (both_read c d h h' u e out) = absurd (reading.never_both x c n p h r)
   one_programs cut x y s t a b (second_refused c h n p r) (first_refused m q r') = absurd (reading.never_both x c m q h r')
-  one_programs cut x y s t a b (second_refused c h n p r) (second_refused d h' m q r') = (refl, one_line y cut n p m q r r')
+  one_programs cut x y s t a b (second_refused c h n p r) (second_refused d h' m q r') = (refl, one_line (λ k place. refusal_line k (cut + place)) y n p m q r r')
   one_programs cut x y s t a b (second_refused c h n p r) (both_read e d g h' u f out) = absurd (reading.never_both y d n p h' r)
   one_programs cut x y s t a b (both_read c d h h' u e out) (first_refused m q r) = absurd (reading.never_both x c m q h r)
   one_programs cut x y s t a b (both_read c d h h' u e out) (second_refused f g m q r) = absurd (reading.never_both y d m q h' r)

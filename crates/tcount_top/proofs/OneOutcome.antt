@@ -1,7 +1,7 @@
 -- Words and a text have one outcome.
 use Rattle.std.proofs.Common.{◌≡◌, ℕ, ◌<◌, ◌≤◌, List, refl, ap, sym, ◌∙◌, subst, arith}
-use Rattle.tc_circuit.specs.Circuit.{Gates, IsSmallCircuit}
-use Rattle.tc_circuit.specs.Model.{Same, IsLeastTCount}
+use Rattle.tc_circuit.specs.Circuit.{Gates}
+use Rattle.tc_circuit.specs.Model.{IsLeastTCount}
 use Rattle.qasm_reader.specs.Read.{Reads, Refused as IsRefused}
 use Rattle.tcount_top.specs.declared.top.Status.{Status}
 use Rattle.tcount_top.specs.declared.command.TextCommand.{TextCommand}

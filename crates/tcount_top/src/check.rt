@@ -56,7 +56,7 @@ impl From<CheckFault> for NotCompared {
     }
 }
 
-/// The circuit of the second program, which stands behind the first one's circuit and begins at the cut.
+/// The circuit of the second program of a text, which begins at the cut. Places count from the text's first byte.
 fn second_of(alloc: Global, text: &[u8], cut: usize) -> Result<Circuit, NotCompared>
     requires short { length text.now ≤ longest }
     requires within { cut ≤ length text.now }
