@@ -8,5 +8,7 @@ pub mod Cut
 pub mod Takeable
 pub mod Outcomes
 pub mod Names
+mod Lengths
 mod Small
 mod Halving
+mod Refusing

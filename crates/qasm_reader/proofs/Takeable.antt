@@ -88,21 +88,21 @@ all_fit k (g ∷ gs) e = let p = and_parts (fits k g) _ e in (fits_is k g p.0, a
 is_sound : Known → Bool
 is_sound g = nat_lt 0 g.arity && list_all (fits g.arity) g.gates
 
--- what the table holds is sound
-look_up_is : (es : List (List ℕ × Known)) (name : List ℕ) (g : Known) → list_all (λ e. is_sound e.1) es ≡ true → look_up es name ≡ Some g → is_sound g ≡ true
-look_up_is [] name g e f = absurd (cc)
-look_up_is (x ∷ xs) name g e f =
-    let p = and_parts (is_sound x.1) _ e in
+-- what is found in a table passes the test that all in it pass
+pub look_up_is : (test : Known → Bool) (es : List (List ℕ × Known)) (name : List ℕ) (g : Known) → list_all (λ e. test e.1) es ≡ true → look_up es name ≡ Some g → test g ≡ true
+look_up_is test [] name g e f = absurd (cc)
+look_up_is test (x ∷ xs) name g e f =
+    let p = and_parts (test x.1) _ e in
     ⊎_elim
-    (λ (t : bytes_eq name x.0 ≡ true). let same : Some x.1 ≡ Some g = sym (ap (λ (b : Bool). cond b (Some x.1) (look_up xs name)) t) ∙ f in let one : x.1 ≡ g = cc in subst (λ (y : Known). is_sound y ≡ true) one p.0)
-    (λ (t : bytes_eq name x.0 ≡ false). look_up_is xs name g p.1 (sym (ap (λ (b : Bool). cond b (Some x.1) (look_up xs name)) t) ∙ f))
+    (λ (t : bytes_eq name x.0 ≡ true). let same : Some x.1 ≡ Some g = sym (ap (λ (b : Bool). cond b (Some x.1) (look_up xs name)) t) ∙ f in let one : x.1 ≡ g = cc in subst (λ (y : Known). test y ≡ true) one p.0)
+    (λ (t : bytes_eq name x.0 ≡ false). look_up_is test xs name g p.1 (sym (ap (λ (b : Bool). cond b (Some x.1) (look_up xs name)) t) ∙ f))
     (cases_Bool (bytes_eq name x.0))
 
 -- a known gate takes an argument, and its gates fit its arguments
 known_is : (name : List ℕ) (g : Known) → known name ≡ Some g → (0 < g.arity) × IsCircuit g.arity g.gates
 unfolding known is_sound fits
 known_is name g e =
-    let s = look_up_is table name g refl e in
+    let s = look_up_is is_sound table name g refl e in
     let p = and_parts (nat_lt 0 g.arity) _ s in
     (ltb-true _ _ p.0, all_fit g.arity g.gates p.1)
 
@@ -170,7 +170,7 @@ range_below n zero first h = tt
 range_below n (suc size) first h = (omega arith, range_below n size (first + 1) (omega arith))
 
 -- a register that is found lies below n
-found_inside : (n : ℕ) (rs : List Register) (name : List ℕ) (r : Register) → Inside n rs → find_register rs name ≡ Some r → (0 < r.size) × (r.first + r.size ≤ n)
+pub found_inside : (n : ℕ) (rs : List Register) (name : List ℕ) (r : Register) → Inside n rs → find_register rs name ≡ Some r → (0 < r.size) × (r.first + r.size ≤ n)
 found_inside n [] name r i e = absurd (cc)
 found_inside n (x ∷ xs) name r i e =
     ⊎_elim
@@ -262,7 +262,7 @@ some_qubit n rs (a ∷ args) i h e = go (find_register rs a.name) refl (or_false
     go (Some r) f g = let p = found_inside n rs a.name r i f in omega (arith, p.0, p.1)
 
 -- a statement takes no other number of arguments
-other_arity : (p : Statement) → is_no_statement p ≡ false → has_other_arity p.form ≡ false
+pub other_arity : (p : Statement) → is_no_statement p ≡ false → has_other_arity p.form ≡ false
 unfolding is_no_statement
 other_arity p e = (or_false _ _ (or_false _ _ e).1).1
 

@@ -24,7 +24,7 @@ mod rows;
 mod scan;
 
 pub use fault::ReadFault;
-pub use laws::{one_halving, one_reading, read_circuits_are_small};
+pub use laws::{one_halving, one_reading, read_circuits_are_small, refusals_stand_in_texts};
 pub use openings::halves;
 pub use reading::read;
 
