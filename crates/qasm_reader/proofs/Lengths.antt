@@ -14,20 +14,24 @@ use Rattle.qasm_reader.specs.Known.{Known, table, known}
 use Rattle.qasm_reader.specs.State.{Register, State, value, find_register, qubits_in, qubits_at, qubits_of, placed, expanded, gates_at, gates_in}
 use Rattle.qasm_reader.specs.Rows.{Statement, row_of, takes_other}
 use Rattle.qasm_reader.proofs.Registers.{Inside}
-use Rattle.qasm_reader.proofs.Takeable.{look_up_is, found_inside, unrefused, other_arity}
+use Rattle.qasm_reader.proofs.Takeable.{look_up_is, found_inside, other_arity}
 
--- how many gates a gate of the table stands for at most
-most_gates_of : Known → ℕ
+-- how many gates a known gate stands for at most
+pub most_gates_of : Known → ℕ
 most_gates_of g = cond (g.arity == 1) (length g.gates * most_qubits) (length g.gates)
 
 -- whether they are few
 is_short : Known → Bool
 is_short g = nat_le (most_gates_of g) most_gates_each
 
--- a known gate stands for few gates
-known_short : (name : List ℕ) (g : Known) → known name ≡ Some g → most_gates_of g ≤ most_gates_each
+-- each known gate stands for few gates
+abbrev pub AreShort : (List ℕ → Option Known) → Type 0
+AreShort gates = (name : List ℕ) (g : Known) → gates name ≡ Some g → most_gates_of g ≤ most_gates_each
+
+-- those of the table do
+pub table_short : AreShort known
 unfolding known is_short most_gates_of
-known_short name g e = leb-true _ _ (look_up_is is_short table name g refl e)
+table_short name g e = leb-true _ _ (look_up_is is_short table name g refl e)
 
 -- the gates of a gate of one argument, on each qubit
 length-each : (gs : List Gate) (qs : List ℕ) → length (flat_map (λ q. map (placed (q ∷ [])) gs) qs) ≡ length gs * length qs
@@ -73,19 +77,19 @@ length-expanded n rs args g i few count = go (g.arity == 1) refl
     go false e = let same : length (map (placed qs) g.gates) ≤ length g.gates = omega (arith, length-map g.gates (placed qs)) in same
 
 -- a statement to which no row applies stands for few gates
-pub few_gates : (s : State) (ws : List Lexeme) (o : Option Form) → Inside s.qubits s.registers → s.qubits ≤ most_qubits
+pub few_gates : (s : State) (ws : List Lexeme) (o : Option Form) → Inside s.qubits s.registers → AreShort s.known → s.qubits ≤ most_qubits
     → row_of s (record { lexemes = ws; form = o }) ≡ None → length (gates_in s o) ≤ most_gates_each
-few_gates s ws None i few row = omega arith
-few_gates s ws (Some (Include text)) i few row = omega arith
-few_gates s ws (Some (Qreg name size)) i few row = omega arith
-few_gates s ws (Some (Creg name size)) i few row = omega arith
-few_gates s ws (Some (Barrier args)) i few row = omega arith
-few_gates s ws (Some (Apply name args)) i few row = go (known name) refl (other_arity p (unrefused s p row).statement)
+few_gates s ws None i short few row = omega arith
+few_gates s ws (Some (Include text)) i short few row = omega arith
+few_gates s ws (Some (Qreg name size)) i short few row = omega arith
+few_gates s ws (Some (Creg name size)) i short few row = omega arith
+few_gates s ws (Some (Barrier args)) i short few row = omega arith
+few_gates s ws (Some (Apply name args)) i short few row = go (s.known name) refl (other_arity s p row)
   where
     p : Statement
     p = record { lexemes = ws; form = Some (Apply name args) }
 
-    go : (o : Option Known) → known name ≡ o → takes_other o (length args) ≡ false → length (gates_at o (flat_map (qubits_of s.registers) args)) ≤ most_gates_each
+    go : (o : Option Known) → s.known name ≡ o → takes_other o (length args) ≡ false → length (gates_at o (flat_map (qubits_of s.registers) args)) ≤ most_gates_each
     go None e other = omega arith
     go (Some g) e other =
-        omega (arith, length-expanded s.qubits s.registers args g i few (eqb-true _ _ (not-false _ other)), known_short name g e)
+        omega (arith, length-expanded s.qubits s.registers args g i few (eqb-true _ _ (not-false _ other)), short name g e)

@@ -12,12 +12,14 @@ use Rattle.qasm_reader.specs.Run.{IsTakeable}
 use Rattle.qasm_reader.specs.Read.{Reads, scan, refused_or, place_of}
 use Rattle.qasm_reader.proofs.Placing.{t_count-append}
 use Rattle.qasm_reader.proofs.Registers.{Inside}
-use Rattle.qasm_reader.proofs.Takeable.{takeable, circuit_append, unrefused}
-use Rattle.qasm_reader.proofs.Lengths.{few_gates}
+use Rattle.qasm_reader.proofs.Takeable.{AreSound, table_sound, takeable, circuit_append, short_before}
+use Rattle.qasm_reader.proofs.Lengths.{AreShort, table_short, few_gates}
 
 -- what holds of the state behind each statement
 record IsSmall (s : State) : Type 0 where
   inside : Inside s.qubits s.registers
+  sound : AreSound s.known
+  few_each : AreShort s.known
   few : s.qubits ≤ most_qubits
   none : s.began ≡ false → s.gates ≡ []
   fit : IsCircuit s.qubits s.gates
@@ -26,7 +28,7 @@ record IsSmall (s : State) : Type 0 where
   counted : s.count ≤ most_statements
 
 small_start : IsSmall start
-small_start = record { inside = tt; few = omega arith; none = λ e. refl; fit = tt; low = omega arith; short = omega arith; counted = omega arith }
+small_start = record { inside = tt; sound = table_sound; few_each = table_short; few = omega arith; none = λ e. refl; fit = tt; low = omega arith; short = omega arith; counted = omega arith }
 
 -- one register more, on more qubits
 inside_more : (n m : ℕ) (rs : List Register) (r : Register) → Inside n rs → 0 < r.size → r.first + r.size ≤ n + m → Inside (n + m) (rs ++ r ∷ [])
@@ -38,14 +40,21 @@ record IsShort (s : State) (f : Option Form) : Type 0 where
   each : length (gates_in s f) ≤ most_gates_each
   counted : s.count < most_statements
 
+-- a statement that adds nothing keeps a state small
+small_counted : (s : State) → IsSmall s → s.count < most_statements → IsSmall (record s { count = s.count + 1 })
+small_counted s h k =
+    record { inside = h.inside; sound = h.sound; few_each = h.few_each; few = h.few; none = h.none; fit = h.fit; low = h.low; short = omega (arith, h.short); counted = omega (arith, k) }
+
 -- a statement that can be taken keeps a state small
 small_after : (s : State) (f : Option Form) → IsSmall s → IsTakeable s f → IsShort s f → IsSmall (after s f)
-small_after s None h t k = record { inside = h.inside; few = h.few; none = h.none; fit = h.fit; low = h.low; short = omega (arith, h.short); counted = omega (arith, k.counted) }
-small_after s (Some (Include text)) h t k = record { inside = h.inside; few = h.few; none = h.none; fit = h.fit; low = h.low; short = omega (arith, h.short); counted = omega (arith, k.counted) }
+small_after s None h t k = small_counted s h k.counted
+small_after s (Some (Include text)) h t k = small_counted s h k.counted
 small_after s (Some (Qreg name size)) h t k =
     let empty : s.gates ≡ [] = h.none t.0 in
     record {
       inside = inside_more s.qubits (value size) s.registers _ h.inside t.1 (omega arith);
+      sound = h.sound;
+      few_each = h.few_each;
       few = t.2;
       none = h.none;
       fit = subst (IsCircuit (s.qubits + value size)) (sym empty) tt;
@@ -53,12 +62,15 @@ small_after s (Some (Qreg name size)) h t k =
       short = omega (arith, h.short);
       counted = omega (arith, k.counted);
     }
-small_after s (Some (Creg name size)) h t k = record { inside = h.inside; few = h.few; none = h.none; fit = h.fit; low = h.low; short = omega (arith, h.short); counted = omega (arith, k.counted) }
-small_after s (Some (Barrier args)) h t k = record { inside = h.inside; few = h.few; none = h.none; fit = h.fit; low = h.low; short = omega (arith, h.short); counted = omega (arith, k.counted) }
+small_after s (Some (Creg name size)) h t k =
+    record { inside = h.inside; sound = h.sound; few_each = h.few_each; few = h.few; none = h.none; fit = h.fit; low = h.low; short = omega (arith, h.short); counted = omega (arith, k.counted) }
+small_after s (Some (Barrier args)) h t k = small_counted s h k.counted
 small_after s (Some (Apply name args)) h t k =
     let added = gates_in s (Some (Apply name args)) in
     record {
       inside = h.inside;
+      sound = h.sound;
+      few_each = h.few_each;
       few = h.few;
       none = λ e. absurd (cc);
       fit = circuit_append s.qubits s.gates added h.fit t.1;
@@ -70,8 +82,8 @@ small_after s (Some (Apply name args)) h t k =
 -- a statement to which no row applies keeps a state small
 small_next : (s : State) (p : Statement) → HasForm p.lexemes p.form → IsSmall s → row_of s p ≡ None → IsSmall (after s p.form)
 small_next s p f h row =
-    small_after s p.form h (takeable s p.lexemes p.form f h.inside row)
-    (record { each = few_gates s p.lexemes p.form h.inside h.few row; counted = (unrefused s p row).short })
+    small_after s p.form h (takeable s p.lexemes p.form f h.inside h.sound row)
+    (record { each = few_gates s p.lexemes p.form h.inside h.few_each h.few row; counted = short_before s p row })
 
 -- the state behind all statements is small
 small_scanned : (ps : List Statement) (s t : State) → AllByRecursion (λ (p : Statement). HasForm p.lexemes p.form) ps → IsSmall s → scan s ps ≡ Ok t → IsSmall t

@@ -6,6 +6,7 @@ ghost use Rattle.qasm_reader.specs.Limits.{most_qubits, most_t_gates, most_state
 ghost use Rattle.qasm_lex.specs.Tokens.{Bad};
 ghost use Rattle.qasm_reader.specs.Halves.{HasHalves, HasNoHalves};
 ghost use Rattle.qasm_reader.specs.Read.{Reads, Refused};
+ghost use Rattle.qasm_reader.specs.Within.{IncludesAreTaken, RegistersAreTaken, GatesAreTaken};
 
 /// Every text reads as a circuit or is refused, never both, and as one circuit, or with one number at one place.
 ///
@@ -31,6 +32,17 @@ pub fn read_circuits_are_small()
 /// A text is refused at a place of it, or at its end.
 pub fn refusals_stand_in_texts()
     ensures { (text : List ℕ) (n p : ℕ) → Refused text n p → p ≤ length text }
+{}
+
+/// No row applies to an include of `qelib1.inc` behind few statements, nor to a register of qubits that is new and within the
+/// limits, nor to a known gate on as many arguments as it takes, each with an index in its register, which name different qubits,
+/// within the limits.
+///
+/// So a text can be shown to read as a circuit one statement after another, without a look at the rows.
+pub fn statements_within_limits_are_taken()
+    ensures include { IncludesAreTaken }
+    ensures register { RegistersAreTaken }
+    ensures gate { GatesAreTaken }
 {}
 
 /// Every text has two halves, has none, or has a bad byte; it has one alone of these, and its halves at one place.
