@@ -1,4 +1,4 @@
--- Tables up to one power of √2, and tables that are built of steps.
+-- Lemmas for the crates above: tables up to one power of √2, and tables that are built of steps.
 use Rattle.std.proofs.Common.{◌≡◌, ℕ, ◌+◌, ◌^◌, ◌<◌, List, [], ◌∷◌, ◌++◌, refl, ap, sym, ◌∙◌}
 use Rattle.ring_laws.specs.Ring.{power}
 use Rattle.ring_laws.specs.Matrix.{product, identity, Agree}

@@ -1,4 +1,4 @@
--- What the gates make of codes, computed on one to three qubits.
+-- Lemmas for the crates above: what the gates make of codes, computed on one to three qubits.
 use Rattle.std.proofs.Common.{◌≡◌, ◌≢◌, ℕ, zero, suc, ◌-◌, ◌*◌, ◌/◌, ◌%◌, ◌^◌, ◌<◌, ◌≤◌, ◌==◌, ◌||◌, ◌&&◌, bit_xor, Bool, true, false, T, eqb, eqb→eq, ltb, ltb→lt, ap, sym, ◌∙◌, subst, arith}
 use Rattle.std.proofs.lemmas.Bool.{ne_eqb}
 use Rattle.std.proofs.lemmas.Nat.{xor_lt, shl_whole}

@@ -1,4 +1,5 @@
--- The columns of a circuit's channel are linearly independent, and so no two of them agree up to sign.
+-- Lemmas for the crates above: the columns of a circuit's channel are linearly independent, and so no two of them agree up
+-- to sign.
 use Rattle.std.proofs.Common.{◌≡◌, ◌≢◌, ℕ, ◌^◌, ◌<◌, ◌≤◌, Bool, true, false, not, List, [], ◌∷◌, refl, ap, sym, ◌∙◌, inl, inr, arith}
 use Rattle.std.specs.List.{AllByRecursion}
 use Rattle.std.proofs.lemmas.Bool.{cond-true, cond-false, cases_eq, cases_Bool}
@@ -41,12 +42,12 @@ both_ways false x y e d = same_surd (omega (arith, ints, ap (λ (s : Surd). s.a)
 
 module _ (n : ℕ) (inverse : Bool) (p : ℕ) where
   -- a row with which the rotation commutes
-  commuting_row : (m : SurdTable) (r c : ℕ) → commute n p r ≡ true → rotated n inverse p m r c ≡ surd_times root2_surd (m r c)
+  pub commuting_row : (m : SurdTable) (r c : ℕ) → commute n p r ≡ true → rotated n inverse p m r c ≡ surd_times root2_surd (m r c)
   unfolding rotated
   commuting_row m r c e = cond-true (commute n p r) _ _ e
 
   -- and one with which it doesn't
-  mixed_row : (m : SurdTable) (r c : ℕ) → commute n p r ≡ false
+  pub mixed_row : (m : SurdTable) (r c : ℕ) → commute n p r ≡ false
       → rotated n inverse p m r c ≡ surd_plus (m r c) (signed (turned_over inverse (not (anti_sign n p r))) (m (product_code p r) c))
   unfolding rotated
   mixed_row m r c e = cond-false (commute n p r) _ _ e

@@ -1,4 +1,5 @@
--- A reduced table has the least exponent of all tables that are the same, and is the only one with it.
+-- Lemmas for the crates above: a reduced table has the least exponent of all tables that are the same, and is the only one
+-- with it.
 use Rattle.std.proofs.Common.{◌≡◌, ℕ, suc, ◌+◌, ◌-◌, ◌^◌, ◌<◌, ◌≤◌, ap, sym, ◌∙◌, inl, inr, arith}
 use Rattle.std.proofs.lemmas.Bool.{cases_lt}
 use Rattle.ring_laws.specs.Ring.{power}

@@ -15,3 +15,6 @@ pub mod OnePower
 pub mod Least
 pub mod Independent
 pub mod Lines
+pub mod Norms
+pub mod Products
+pub mod Undone

@@ -1,10 +1,9 @@
 -- Cells divided by √2, several times.
-use Rattle.std.proofs.Common.{◌≡◌, ℕ, zero, suc, ◌+◌, ◌-◌, ◌≤◌, ap, ◌∙◌, subst, arith}
-use Rattle.std.proofs.lemmas.Int.{ints}
+use Rattle.std.proofs.Common.{◌≡◌, ℕ, ◌+◌, ◌-◌, ◌≤◌, ap, ◌∙◌, arith}
 use Rattle.ring_laws.specs.Ring.{power}
 use Rattle.ring_laws.proofs.Ring.{one-mul}
-use Rattle.tc_ring.specs.Surds.{Surd, surds, surd_times, root2_surd, SurdWithin}
-use Rattle.tc_ring.proofs.Surds.{surds_laws, root2_surd-times, surd_times_assoc}
+use Rattle.tc_ring.specs.Surds.{Surd, surds, surd_times, root2_surd}
+use Rattle.tc_ring.proofs.Surds.{surds_laws, surd_times_assoc}
 use Rattle.channel_rep.proofs.Built.{root2_to, root2_to-add}
 
 -- once: x is √2·x', and so √2^j·x is √2^(j+1)·x'
@@ -18,20 +17,6 @@ once_more j i x x' y e h g =
 pub not_yet : (k : ℕ) (x : Surd) → surd_times (root2_to (k - k)) x ≡ x
 unfolding power
 not_yet k x = let e : k - k ≡ 0 = omega arith in ap (λ j. surd_times (root2_to j) x) e ∙ one-mul surds_laws x
-
--- what is within a bound once multiplied was so before
-pub within_half : (a : ℕ) (x : Surd) → SurdWithin a (surd_times root2_surd x) → SurdWithin a x
-within_half a x h =
-    let e = root2_surd-times x in
-    let whole = ap (λ (s : Surd). s.a) e in
-    let part = ap (λ (s : Surd). s.b) e in
-    record { low_a = omega (arith, ints); high_a = omega (arith, ints); low_b = omega (arith, ints); high_b = omega (arith, ints) }
-
--- the same for any power
-pub within_power : (a j : ℕ) (x : Surd) → SurdWithin a (surd_times (root2_to j) x) → SurdWithin a x
-unfolding power
-within_power a zero x h = subst (SurdWithin a) (one-mul surds_laws x) h
-within_power a (suc j) x h = within_power a j x (within_half a _ (subst (SurdWithin a) (surd_times_assoc root2_surd (root2_to j) x) h))
 
 -- brought to one exponent
 pub brought : (k j : ℕ) (x y : Surd) → k ≤ j → surd_times (root2_to (j - k)) x ≡ y → surd_times (root2_to j) x ≡ surd_times (root2_to k) y

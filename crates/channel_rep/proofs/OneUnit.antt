@@ -1,4 +1,4 @@
--- Lines with one entry that is 1 or −1.
+-- Lemmas for the crates above: lines with one entry that is 1 or −1.
 use Rattle.std.proofs.Common.{◌≡◌, ℕ, ◌+◌, ◌*◌, ◌<◌, ◌&&◌, List, Bool, true, false, refl, ap, sym, ◌∙◌, subst, inl, inr, arith}
 use Rattle.std.specs.Ordering.{int_eq}
 use Rattle.std.specs.Bool.{MatchBool}

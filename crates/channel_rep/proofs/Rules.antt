@@ -1,12 +1,12 @@
--- A step's table times a table is the rule by rows.
+-- Lemmas for the crates above: a step's table times a table is the rule by rows.
 use Rattle.std.proofs.Common.{◌≡◌, ◌≢◌, ℕ, ◌+◌, ◌*◌, ◌^◌, ◌<◌, ◌≤◌, Bool, true, false, not, eqb, refl, ap, sym, ◌∙◌, inl, inr, arith}
 use Rattle.std.specs.Prelude.{if◌then◌else◌}
 use Rattle.std.proofs.lemmas.Bool.{cond-true, cond-false, ne_eqb, eq-eqb, cases_eq}
 use Rattle.ring_laws.specs.Matrix.{sum, product, identity}
 use Rattle.ring_laws.proofs.Ring.{add-mul, mul-zero}
 use Rattle.ring_laws.proofs.Sums.{sum_cong, sum-add, mul-sum, identity-product}
-use Rattle.tc_ring.specs.Surds.{Surd, surds, surd_plus, surd_times, zero_surd, one_surd, root2_surd, SurdWithin}
-use Rattle.tc_ring.proofs.Surds.{surds_laws, surd_plus-zero, surd_times_assoc, surd_within_more, surd_within_plus, surd_within_root2}
+use Rattle.tc_ring.specs.Surds.{Surd, surds, surd_plus, surd_times, zero_surd, one_surd, root2_surd}
+use Rattle.tc_ring.proofs.Surds.{surds_laws, surd_plus-zero, surd_times_assoc}
 use Rattle.pauli_basis.specs.Products.{product_code, commute, anti_sign}
 use Rattle.pauli_basis.proofs.Products.{product_code-lt, product_code-back, product_code-apart, commute-back, anti_sign-back}
 use Rattle.channel_rep.specs.Gates.{image, Fits}
@@ -14,7 +14,7 @@ use Rattle.channel_rep.specs.Tables.{SurdTable, signed, turned_over, gate_table,
 use Rattle.channel_rep.specs.Rows.{rotated, moved}
 use Rattle.channel_rep.specs.declared.gate.ChannelGate.{ChannelGate}
 use Rattle.channel_rep.proofs.Images.{image-lt, image-image}
-use Rattle.channel_rep.proofs.Signs.{signed_is, signed-zero, signed_within}
+use Rattle.channel_rep.proofs.Signs.{signed_is, signed-zero}
 
 -- ---- entries of the identity
 pub one_at : (r c : ℕ) → r ≡ c → identity surds r c ≡ one_surd
@@ -27,14 +27,14 @@ unfolding identity
 zero_at r c d = cond-false (eqb r c) one_surd zero_surd (ne_eqb r c d)
 
 -- entries of the identity that are one where the other is
-same_entry : (r c s d : ℕ) → (r ≡ c → s ≡ d) → (s ≡ d → r ≡ c) → identity surds r c ≡ identity surds s d
+pub same_entry : (r c s d : ℕ) → (r ≡ c → s ≡ d) → (s ≡ d → r ≡ c) → identity surds r c ≡ identity surds s d
 same_entry r c s d there back = elim (cases_eq r c) [
   | inl e ↦ one_at r c e ∙ sym (one_at s d (there e))
   | inr n ↦ zero_at r c n ∙ sym (zero_at s d (λ e. n (back e)))
 ]
 
 -- a row of the identity with a sign, times a table, is that row of the table with the sign
-signed_row : (size : ℕ) (b : Bool) (s c : ℕ) (m : SurdTable) → s < size → sum surds size (λ k. surd_times (signed b (identity surds s k)) (m k c)) ≡ signed b (m s c)
+pub signed_row : (size : ℕ) (b : Bool) (s c : ℕ) (m : SurdTable) → s < size → sum surds size (λ k. surd_times (signed b (identity surds s k)) (m k c)) ≡ signed b (m s c)
 unfolding product
 signed_row size b s c m l =
     sum_cong surds_laws size _ _ (λ k h. ap (λ x. surd_times x (m k c)) (signed_is b (identity surds s k)) ∙ surd_times_assoc (signed b one_surd) (identity surds s k) (m k c))
@@ -68,7 +68,7 @@ gate_rule n some few g fits m r c l =
 
 -- ---- rotations
 -- one entry of a rotation, from its parts
-abbrev entry_of : Bool → Surd → Bool → Surd → Surd
+abbrev pub entry_of : Bool → Surd → Bool → Surd → Surd
 entry_of b x s y = if b then surd_times root2_surd x else surd_plus x (signed s y)
 
 -- an entry of two zeros
@@ -88,7 +88,7 @@ sign_where_apart true s t x y h = refl
 sign_where_apart false s t x y h = ap (λ s. surd_plus x (signed s y)) (h refl)
 
 -- the entry of column k in row r, by the row
-row_entry : (n : ℕ) (inverse : Bool) (p r k : ℕ) → p ≢ 0
+pub row_entry : (n : ℕ) (inverse : Bool) (p r k : ℕ) → p ≢ 0
     → rotation_table n inverse p r k
     ≡ entry_of (commute n p r) (identity surds r k) (turned_over inverse (not (anti_sign n p r))) (identity surds (product_code p r) k)
 unfolding rotation_table
@@ -134,21 +134,3 @@ rotation_rule n inverse p lp d m r c l =
         sum_cong surds_laws (4 ^ n) _ _ (λ k h. add-mul surds_laws (identity surds r k) (signed s (identity surds (product_code p r) k)) (m k c))
         ∙ sum-add surds_laws (4 ^ n) (λ k. surd_times (identity surds r k) (m k c)) (λ k. surd_times (signed s (identity surds (product_code p r) k)) (m k c))
         ∙ (λ i. surd_plus (plain r l i) (signed_row (4 ^ n) s (product_code p r) c m partner i))
-
--- ---- how far the entries grow
-pub moved_within : (n a : ℕ) → 0 < n → n ≤ 3 → (g : ChannelGate) → Fits n g → (m : SurdTable) → ((r c : ℕ) → r < 4 ^ n → c < 4 ^ n → SurdWithin a (m r c))
-    → (r c : ℕ) → r < 4 ^ n → c < 4 ^ n → SurdWithin a (moved n g m r c)
-unfolding moved
-moved_within n a some few g fits m small r c l h = signed_within a _ _ (small _ c (image-lt n some few g fits r l) h)
-
--- a rotation at most doubles the bound
-pub rotated_within : (n a : ℕ) (inverse : Bool) (p : ℕ) → p < 4 ^ n → (m : SurdTable) → ((r c : ℕ) → r < 4 ^ n → c < 4 ^ n → SurdWithin a (m r c))
-    → (r c : ℕ) → r < 4 ^ n → c < 4 ^ n → SurdWithin (2 * a) (rotated n inverse p m r c)
-unfolding rotated
-rotated_within n a inverse p lp m small r c l h = by (commute n p r) (turned_over inverse (not (anti_sign n p r)))
-  where
-    by : (b s : Bool) → SurdWithin (2 * a) (entry_of b (m r c) s (m (product_code p r) c))
-    by true s = surd_within_root2 a (m r c) (small r c l h)
-    by false s =
-        surd_within_more (a + a) (2 * a) _ (omega arith)
-        (surd_within_plus a a (m r c) _ (small r c l h) (signed_within a s _ (small _ c (product_code-lt n p r lp l) h)))

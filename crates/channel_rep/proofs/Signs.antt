@@ -1,8 +1,8 @@
--- Numbers with a sign.
+-- Lemmas for the crates above: numbers with a sign.
 use Rattle.std.proofs.Common.{◌≡◌, ℕ, Bool, true, false, not, refl, ap, sym, ◌∙◌}
 use Rattle.ring_laws.proofs.Ring.{one-mul, neg-mul, mul-neg, neg-neg}
-use Rattle.tc_ring.specs.Surds.{Surd, surd_integer, surd_plus, surd_times, surd_negative, zero_surd, one_surd, SurdWithin}
-use Rattle.tc_ring.proofs.Surds.{surds_laws, surd_plus_comm, surd_plus-negative, surd_within_negative}
+use Rattle.tc_ring.specs.Surds.{Surd, surd_integer, surd_plus, surd_times, surd_negative, zero_surd, one_surd}
+use Rattle.tc_ring.proofs.Surds.{surds_laws, surd_plus_comm, surd_plus-negative}
 use Rattle.channel_rep.specs.Tables.{signed, turned_over}
 
 -- with the sign
@@ -40,12 +40,6 @@ pub signed-zero : (b : Bool) → signed b zero_surd ≡ zero_surd
 unfolding signed surd_negative surd_integer
 signed-zero true = refl
 signed-zero false = refl
-
--- a sign keeps the bound
-pub signed_within : (a : ℕ) (b : Bool) (x : Surd) → SurdWithin a x → SurdWithin a (signed b x)
-unfolding signed
-signed_within a true x h = surd_within_negative a x h
-signed_within a false x h = h
 
 -- ---- two signs
 -- a sign taken twice

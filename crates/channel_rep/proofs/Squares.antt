@@ -1,4 +1,4 @@
--- The places of a square table, row by row.
+-- Lemmas for the crates above: the places of a square table, row by row.
 use Rattle.std.proofs.Common.{◌≡◌, ℕ, ◌+◌, ◌*◌, ◌/◌, ◌%◌, ◌^◌, ◌<◌, ◌≤◌, subst, arith, lit<}
 use Rattle.std.proofs.lemmas.Nat.{mul-le, mul-add-lt, div-mul-add, mod-mul-add, div_below, mod_below, div-add-mod', pow_pos}
 use Rattle.pauli_basis.proofs.Letters.{two_bits}

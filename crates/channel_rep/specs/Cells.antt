@@ -1,14 +1,14 @@
--- What a `Channel` shows: its qubits, one exponent of √2, how far its cells may have grown, and the cells row by row.
+-- What a `Channel` shows: its qubits, one exponent of √2, and the cells row by row.
 use Rattle.std.specs.Prelude.{◌≡◌, ℕ, ◌+◌, ◌*◌, ◌^◌, ◌<◌, ◌≤◌, ◌≢◌, ◌⊎◌, List, length, pos, slice_index_or}
 use Rattle.tc_ring.specs.Root2.{surd_of}
 use Rattle.tc_ring.specs.Surds.{Surd, SurdWithin, IsOdd, surd_negative, zero_surd, one_surd}
 use Rattle.tc_ring.specs.declared.root2.Root2.{Root2}
 use Rattle.channel_rep.specs.Tables.{SurdTable, ScaledTable}
+use Rattle.channel_rep.specs.Norms.{HasOrthogonalColumns}
 
 pub record ChannelGrid : Type 0 where
   pub qubits : ℕ
   pub exponent : ℕ
-  pub grown : ℕ
   pub cells : List Root2
 
 abbrev pub no_cell : Root2
@@ -37,15 +37,18 @@ RowWithin bound row = (place : ℕ) → place < length row → SurdWithin bound 
 abbrev pub EntriesWithin : ℕ → ℕ → List Root2 → Type 0
 EntriesWithin bound size cells = (row column : ℕ) → row < size → column < size → SurdWithin bound (entries size cells row column)
 
--- one to three qubits, 4^n rows of 4^n cells, and both numbers of each cell within 2^grown, where grown is at most 62.
--- The exponent never passes `grown`, since both rise together and `grown` never falls
+-- the largest exponent of a channel. At it both numbers of each cell are at most 2^60, so that a sum of two fits a machine word
+abbrev pub most_exponent : ℕ
+most_exponent = 120
+
+-- one to three qubits, 4^n rows of 4^n cells, and orthogonal columns, in each of which the squares add up to 2^k for the
+-- exponent k
 pub record IsChannelGrid (m : ChannelGrid) : Type 0 where
   pub some : 0 < m.qubits
   pub few : m.qubits ≤ 3
   pub whole : length m.cells ≡ 4 ^ m.qubits * 4 ^ m.qubits
-  pub low : m.exponent ≤ m.grown
-  pub room : m.grown ≤ 62
-  pub small : EntriesWithin (2 ^ m.grown) (4 ^ m.qubits) m.cells
+  pub low : m.exponent ≤ most_exponent
+  pub orthogonal : HasOrthogonalColumns (4 ^ m.qubits) m.exponent (table_of m)
 
 -- some cell has an odd whole part
 pub record HasOddCell (m : ChannelGrid) : Type 0 where

@@ -1,7 +1,10 @@
 pub mod Gates
 pub mod Tables
+pub mod Norms
 pub mod Rows
 pub mod Cells
 pub mod Changes
 pub mod Conjugations
 pub mod Words
+pub mod Products
+pub mod Laws

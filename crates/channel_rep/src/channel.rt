@@ -3,10 +3,11 @@ ghost use Rattle.std.specs.Prelude.{◌≡◌, ◌≢◌, ℕ, ◌+◌, ◌*◌,
 ghost use Rattle.ring_laws.specs.Matrix.{product, identity, Agree};
 ghost use Rattle.tc_ring.specs.Root2.{surd_of};
 ghost use Rattle.tc_ring.specs.Surds.{surds, SurdWithin, one_surd};
-ghost use Rattle.channel_rep.specs.Cells.{entries, cell_of, RowWithin};
+ghost use Rattle.channel_rep.specs.Cells.{entries, cell_of, most_exponent, RowWithin};
 ghost use Rattle.channel_rep.specs.Changes.{ChangesRow};
 ghost use Rattle.channel_rep.specs.Conjugations.{IsConjugationBy, MovesRows, gate_steps};
 ghost use Rattle.channel_rep.specs.Gates.{Fits};
+ghost use Rattle.channel_rep.specs.Norms.{HasNorm};
 ghost use Rattle.channel_rep.specs.Tables.{Step, by_gate, by_rotation, by_inverse_rotation, gate_table, rotation_table, signed, ScaledTable, SameTable, IsBuiltOf};
 
 use crate::halves::divide_out;
@@ -18,6 +19,9 @@ use pauli_basis::Pauli;
 use std::alloc::{AllocError, Global};
 use std::marker::Model;
 use tc_ring::Root2;
+
+/// The largest exponent of a channel. A channel of k rotations has at most the exponent k.
+pub const MOST_EXPONENT: u32 = 120;
 
 /// The cell of the identity at a row and a column.
 fn identity_cell(row: usize, column: usize) -> Root2
@@ -71,13 +75,13 @@ fn write_identity(cells: &mut [Root2], size: usize)
 /// The channel of a unitary U on one to three qubits: a table of 4^n rows and columns whose entry at row P and column Q
 /// is tr(P·U·Q·U†)/2^n, rows and columns being Pauli codes.
 ///
-/// It stands for its cells divided by √2^k, one exponent k for all of them. Both numbers of each cell are at most
-/// 2^grown in absolute value, where `grown` counts the rotations since the identity and is at most 62.
+/// It stands for its cells divided by √2^k, one exponent k for all of them, at most `MOST_EXPONENT`. Its columns are
+/// orthogonal, and over the cells a + b·√2 of each column a² + 2b² has the sum 2^k, so both numbers of each cell are at
+/// most 2^60 in absolute value.
 #[derive(Drop)]
 pub struct Channel {
     n: u8,
     k: u32,
-    grown: u32,
     cells: Vec<Root2>,
 }
 
@@ -86,10 +90,10 @@ impl Model for Channel {
 
     ghost Value = { ChannelGrid };
 
-    ghost view = { λ m. record { qubits = m.n; exponent = m.k; grown = m.grown; cells = m.cells.items } };
+    ghost view = { λ m. record { qubits = m.n; exponent = m.k; cells = m.cells.items } };
 
     ghost invariant = { λ m. IsChannelGrid
-        (record { qubits = m.n; exponent = m.k; grown = m.grown; cells = m.cells.items }) };
+        (record { qubits = m.n; exponent = m.k; cells = m.cells.items }) };
 }
 
 impl Channel {
@@ -101,7 +105,6 @@ impl Channel {
         requires few { n ≤ 3 }
         ensures qubits { IfOk result (λ m. m.qubits ≡ n) }
         ensures exponent { IfOk result (λ m. m.exponent ≡ 0) }
-        ensures grown { IfOk result (λ m. m.grown ≡ 0) }
         ensures table { IfOk result (λ m. Agree surds (4 ^ n) (table_of m) (identity surds)) }
         ensures built { IfOk result (λ m. IsBuiltOf n [] (scaled m)) }
     {
@@ -109,7 +112,6 @@ impl Channel {
         Ok(Channel {
             n,
             k: 0,
-            grown: 0,
             cells,
         })
     }
@@ -118,13 +120,11 @@ impl Channel {
     pub fn make_identity(&mut self)
         ensures qubits { self.new.qubits ≡ self.old.qubits }
         ensures exponent { self.new.exponent ≡ 0 }
-        ensures grown { self.new.grown ≡ 0 }
         ensures table { Agree surds (4 ^ self.old.qubits) (table_of self.new) (identity surds) }
         ensures built { IsBuiltOf self.old.qubits [] (scaled self.new) }
     {
         write_identity(&mut self.cells, codes(self.n));
         self.k = 0;
-        self.grown = 0;
     }
 
     /// Makes the channel into the gate's channel times it, in place.
@@ -132,7 +132,6 @@ impl Channel {
         requires { Fits self.old.qubits gate }
         ensures qubits { self.new.qubits ≡ self.old.qubits }
         ensures exponent { self.new.exponent ≡ self.old.exponent }
-        ensures grown { self.new.grown ≡ self.old.grown }
         ensures table { Agree surds (4 ^ self.old.qubits) (table_of self.new)
             (product surds (4 ^ self.old.qubits) (gate_table self.old.qubits gate) (table_of self.old)) }
         ensures built { (steps : List Step) → IsBuiltOf self.old.qubits steps (scaled self.old)
@@ -145,27 +144,24 @@ impl Channel {
     fn rotate(&mut self, p: &Pauli, inverse: bool)
         requires same { p.now.qubits ≡ self.old.qubits }
         requires other { p.now.code ≢ 0 }
-        requires room { self.old.grown < 62 }
+        requires room { self.old.exponent < most_exponent }
         ensures qubits { self.new.qubits ≡ self.old.qubits }
         ensures exponent { self.new.exponent ≡ 1 + self.old.exponent }
-        ensures grown { self.new.grown ≡ 1 + self.old.grown }
         ensures table { Agree surds (4 ^ self.old.qubits) (table_of self.new)
             (product surds (4 ^ self.old.qubits)
             (rotation_table self.old.qubits inverse p.now.code) (table_of self.old)) }
     {
         rotate_rows(&mut self.cells, p, inverse);
         self.k += 1;
-        self.grown += 1;
     }
 
     /// Makes the channel into that of the rotation R(p) times it, in place.
     pub fn left_rotation(&mut self, p: Pauli)
         requires same { p.qubits ≡ self.old.qubits }
         requires other { p.code ≢ 0 }
-        requires room { self.old.grown < 62 }
+        requires room { self.old.exponent < most_exponent }
         ensures qubits { self.new.qubits ≡ self.old.qubits }
         ensures exponent { self.new.exponent ≡ 1 + self.old.exponent }
-        ensures grown { self.new.grown ≡ 1 + self.old.grown }
         ensures table { Agree surds (4 ^ self.old.qubits) (table_of self.new)
             (product surds (4 ^ self.old.qubits)
             (rotation_table self.old.qubits false p.code) (table_of self.old)) }
@@ -179,10 +175,9 @@ impl Channel {
     pub fn left_rotation_inverse(&mut self, p: Pauli)
         requires same { p.qubits ≡ self.old.qubits }
         requires other { p.code ≢ 0 }
-        requires room { self.old.grown < 62 }
+        requires room { self.old.exponent < most_exponent }
         ensures qubits { self.new.qubits ≡ self.old.qubits }
         ensures exponent { self.new.exponent ≡ 1 + self.old.exponent }
-        ensures grown { self.new.grown ≡ 1 + self.old.grown }
         ensures table { Agree surds (4 ^ self.old.qubits) (table_of self.new)
             (product surds (4 ^ self.old.qubits)
             (rotation_table self.old.qubits true p.code) (table_of self.old)) }
@@ -205,8 +200,7 @@ impl Channel {
     /// The power of √2 by which every cell is divided.
     pub fn exponent(&self) -> u32
         ensures value { result ≡ self.now.exponent }
-        ensures low { result ≤ self.now.grown }
-        ensures room { self.now.grown ≤ 62 }
+        ensures low { result ≤ most_exponent }
     {
         self.k
     }
@@ -216,8 +210,8 @@ impl Channel {
         requires row { row < 4 ^ self.now.qubits }
         requires col { col < 4 ^ self.now.qubits }
         ensures value { surd_of result ≡ table_of self.now row col }
-        ensures small { SurdWithin (2 ^ self.now.grown) (surd_of result) }
-        ensures room { self.now.grown ≤ 62 }
+        ensures small { SurdWithin (2 ^ 60) (surd_of result) }
+        ensures norm { HasNorm (4 ^ self.now.qubits) self.now.exponent (table_of self.now) }
     {
         cell_at(&self.cells, codes(self.n), row, col)
     }
@@ -228,8 +222,8 @@ impl Channel {
         ensures len { length result.now ≡ 4 ^ self.now.qubits }
         ensures cells { (c : ℕ) → c < 4 ^ self.now.qubits
             → cell_of result.now c ≡ table_of self.now row c }
-        ensures small { RowWithin (2 ^ self.now.grown) result.now }
-        ensures room { self.now.grown ≤ 62 }
+        ensures small { RowWithin (2 ^ 60) result.now }
+        ensures norm { HasNorm (4 ^ self.now.qubits) self.now.exponent (table_of self.now) }
     {
         let size = codes(self.n);
         &self.cells[row * size..(row + 1) * size]
@@ -241,7 +235,6 @@ impl Channel {
         ensures { self.new ≡ o.now }
     {
         self.k = o.k;
-        self.grown = o.grown;
         self.cells.copy_from_slice(&o.cells);
     }
 
@@ -252,14 +245,12 @@ impl Channel {
         requires as_many { by.now.qubits ≡ o.now.qubits }
         ensures qubits { self.new.qubits ≡ o.now.qubits }
         ensures exponent { self.new.exponent ≡ o.now.exponent }
-        ensures grown { self.new.grown ≡ o.now.grown }
         ensures rows { MovesRows by.now (table_of o.now) (table_of self.new) }
         ensures built { (gates : List ChannelGate) → IsConjugationBy gates by.now
             → (steps : List Step) → IsBuiltOf o.now.qubits steps (scaled o.now)
             → IsBuiltOf o.now.qubits (steps ++ gate_steps gates) (scaled self.new) }
     {
         self.k = o.k;
-        self.grown = o.grown;
         conjugate_rows(&mut self.cells, &o.cells, by);
     }
 
@@ -267,7 +258,6 @@ impl Channel {
     /// stays, and the exponent becomes the least one.
     pub fn reduce(&mut self)
         ensures qubits { self.new.qubits ≡ self.old.qubits }
-        ensures grown { self.new.grown ≡ self.old.grown }
         ensures exponent { self.new.exponent ≤ self.old.exponent }
         ensures value { SameTable self.old.qubits (scaled self.new) (scaled self.old) }
         ensures reduced { IsReduced self.new }

@@ -17,11 +17,12 @@ mod channel;
 mod conjugation;
 mod gate;
 mod halves;
+pub mod laws;
 mod rows;
 mod steps;
 mod units;
 
-pub use channel::Channel;
+pub use channel::{Channel, MOST_EXPONENT};
 pub use conjugation::Conjugation;
 pub use gate::ChannelGate;
 

@@ -1,4 +1,4 @@
--- The rest of a signed permutation that is a circuit's channel has that channel.
+-- Lemmas for the crates above: the rest of a signed permutation that is a circuit's channel has that channel.
 use Rattle.std.proofs.Common.{◌≡◌, ℕ, suc, ◌^◌, ◌<◌, ◌≤◌, false, true, List, [], ◌∷◌, length, refl, ap, sym, ◌∙◌, subst, arith}
 use Rattle.std.specs.List.{AllByRecursion}
 use Rattle.ring_laws.specs.Matrix.{product, identity, Agree}

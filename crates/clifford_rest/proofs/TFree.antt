@@ -1,4 +1,4 @@
--- The channel of a circuit without T gates is a signed permutation.
+-- Lemmas for the crates above: the channel of a circuit without T gates is a signed permutation.
 use Rattle.std.proofs.Common.{◌≡◌, ℕ, suc, ◌-◌, ◌^◌, ◌<◌, ◌≤◌, List, [], ◌∷◌, refl, ap, sym, ◌∙◌, subst, inl, inr, arith}
 use Rattle.std.specs.List.{AllByRecursion}
 use Rattle.std.proofs.lemmas.Bool.{cases_eq}

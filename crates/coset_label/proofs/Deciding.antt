@@ -1,4 +1,4 @@
--- The test tells whether two tables lie in one coset.
+-- Lemmas for the crates above: the test tells whether two tables lie in one coset.
 use Rattle.std.proofs.Common.{◌≡◌, ℕ, ◌^◌, ◌<◌, ◌⊎◌, Bool, true, false, ◌&&◌, ◌||◌, refl, ap, ◌∙◌, ⊎_elim, inl, inr}
 use Rattle.std.specs.Bool.{Decides}
 use Rattle.std.proofs.lemmas.Bool.Decides.{Decides-like, Decides-and, Decides-or, Decides-int_eq, Decides-below_and, Decides-below_or}

@@ -3,6 +3,8 @@ pub mod ColumnLists
 pub mod RisingLists
 pub mod OneCoset
 pub mod OneLabel
+pub mod InFront
+pub mod Exponents
 pub mod Permutations
 pub mod WordChannels
 pub mod Digits

@@ -1,4 +1,4 @@
--- To lie in one coset is an equivalence on tables, and on words. Crates above use it too.
+-- Lemmas for the crates above: to lie in one coset is an equivalence on tables, and on words.
 use Rattle.std.proofs.Common.{◌≡◌, ℕ, Bool, false, List, ap, sym, ◌∙◌}
 use Rattle.ring_laws.proofs.Ring.{mul_left_comm}
 use Rattle.tc_ring.specs.Surds.{Surd, surd_times}

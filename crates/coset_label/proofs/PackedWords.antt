@@ -1,4 +1,4 @@
--- Packed words against the words that they stand for. Crates above use it too.
+-- Lemmas for the crates above: packed words against the words that they stand for.
 use Rattle.std.proofs.Common.{◌≡◌, ◌≢◌, ℕ, zero, suc, ◌+◌, ◌-◌, ◌*◌, ◌/◌, ◌%◌, ◌^◌, ◌<◌, ◌≤◌, ◌↔◌, List, [], ◌∷◌, ◌++◌, length, IsTrue, slice_get, Some, refl, ap, sym, ◌∙◌, subst, arith, nat_lt, nat_eq, Bool, bit_and, Fits, w32, add-one}
 use Rattle.std.specs.Ordering.{nat_cmp}
 use Rattle.std.specs.declared.cmp.Ordering.TheVariants.{Less, Equal, Greater}

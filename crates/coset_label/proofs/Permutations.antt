@@ -1,4 +1,4 @@
--- Two tables lie in one coset exactly where they differ by a signed permutation of the columns.
+-- Lemmas for the crates above: two tables lie in one coset exactly where they differ by a signed permutation of the columns.
 use Rattle.std.proofs.Common.{◌≡◌, ◌≢◌, ℕ, ◌^◌, ◌<◌, Bool, true, false, refl, ap, sym, ◌∙◌, subst, inl, inr, arith}
 use Rattle.std.proofs.lemmas.Bool.{cases_eq, cases_lt}
 use Rattle.ring_laws.specs.Matrix.{product, identity}

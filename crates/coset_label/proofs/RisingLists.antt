@@ -1,4 +1,4 @@
--- Sorted lists without repetition are equal where they have the same members.
+-- Lemmas for the crates above: sorted lists without repetition are equal where they have the same members.
 use Rattle.std.proofs.Common.{◌≡◌, ◌↔◌, ◌+◌, Bool, true, false, List, [], ◌∷◌, get_or, refl, sym, arith, Ordering, Less, Equal, Greater}
 use Rattle.std.specs.Prelude.{IsTrue}
 use Rattle.std.specs.Cmp.{IsTotalOrder}

@@ -5,8 +5,6 @@ use Rattle.std.specs.Ordering.{int_eq}
 use Rattle.std.proofs.lemmas.Bool.{cases_eq, true≢false}
 use Rattle.std.proofs.lemmas.List.{get_or-map}
 use Rattle.tc_ring.specs.Surds.{Surd, surd}
-use Rattle.std.proofs.Common.{lit<}
-use Rattle.std.proofs.Math.Nat.{pow-le-pow_right}
 use Rattle.tc_ring.specs.declared.root2.Root2.{Root2}
 use Rattle.tc_ring.proofs.Surds.{surd_within_more}
 use Rattle.channel_rep.specs.Tables.{signed}
@@ -99,8 +97,8 @@ columns_by_cells m k m_negative k_negative m_order k_order q h g = (there, back)
         ∙ sym (kept_numbers k k_negative (slice_index k_order place)))
 
 -- a row's cells are within the greatest bound
-pub small_row : (grown : ℕ) (line : List Root2) → grown ≤ 62 → RowWithin (2 ^ grown) line → RowWithin (2 ^ 62) line
-small_row grown line room small place l = surd_within_more (2 ^ grown) (2 ^ 62) _ (pow-le-pow_right {n = 2} (lit< tt) room) (small place l)
+pub small_row : (line : List Root2) → RowWithin (2 ^ 60) line → RowWithin (2 ^ 62) line
+small_row line small place l = surd_within_more (2 ^ 60) (2 ^ 62) _ (omega arith) (small place l)
 
 -- the cell of a row at a place is that of the label
 pub cell_of_row : (m : ChannelGrid) (line : List Root2) (row : ℕ) (negative : List Bool) (order : List ℕ) (place : ℕ) → ((c : ℕ) → c < 4 ^ m.qubits → cell_of line c ≡ table_of m row c) → IsKept m negative order → place < 4 ^ m.qubits

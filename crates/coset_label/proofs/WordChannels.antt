@@ -1,4 +1,4 @@
--- The channel of a word is a circuit's channel, and so words of one coset have one label.
+-- Lemmas for the crates above: the channel of a word is a circuit's channel, and so words of one coset have one label.
 use Rattle.std.proofs.Common.{◌≡◌, ◌↔◌, ℕ, ◌<◌, ◌≤◌, List, [], ◌∷◌, sym, subst}
 use Rattle.std.specs.List.{AllByRecursion}
 use Rattle.std.proofs.lemmas.List.Elements.{All-from_recursion, recursion_from_All, All-push}
@@ -12,7 +12,7 @@ use Rattle.coset_label.proofs.OneCoset.{same_coset_sym, same_coset_trans, same_c
 use Rattle.coset_label.proofs.OneLabel.{one_coset_of_label, one_label_of_coset}
 
 -- the rotations of a word
-word_has_steps : (n : ℕ) (word : List ℕ) → IsWord n word → AllByRecursion (IsStep n) (word_steps word)
+pub word_has_steps : (n : ℕ) (word : List ℕ) → IsWord n word → AllByRecursion (IsStep n) (word_steps word)
 word_has_steps n [] is = tt
 word_has_steps n (p ∷ word) is =
     recursion_from_All (IsStep n) (word_steps (p ∷ word))

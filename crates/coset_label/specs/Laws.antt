@@ -1,11 +1,12 @@
 -- What the laws of this crate say.
-use Rattle.std.specs.Prelude.{◌≡◌, ◌↔◌, ℕ, ◌<◌, ◌≤◌, Bool, IsTrue, List}
+use Rattle.std.specs.Prelude.{◌≡◌, ◌↔◌, ℕ, ◌<◌, ◌≤◌, Bool, IsTrue, List, length}
 use Rattle.std.specs.Bool.{Decides}
-use Rattle.channel_rep.specs.Tables.{ScaledTable, IsCircuitChannel}
+use Rattle.channel_rep.specs.Products.{table_product}
+use Rattle.channel_rep.specs.Tables.{ScaledTable, Step, stepped, IsCircuitChannel}
 use Rattle.channel_rep.specs.Words.{IsWord}
 use Rattle.coset_label.specs.Cosets.{SameCoset, SameCosetWords, DiffersByPermutation}
 use Rattle.coset_label.specs.Decided.{in_one_coset}
-use Rattle.coset_label.specs.Labels.{Label, IsLabelOf, IsLabelOfWord}
+use Rattle.coset_label.specs.Labels.{Label, HasLeastExponent, IsLabelOf, IsLabelOfWord}
 use Rattle.coset_label.specs.Tags.{tag_of}
 use Rattle.coset_label.specs.Words.{word_channel}
 
@@ -43,6 +44,11 @@ abbrev pub EqualLabelsMeanOneCoset : Type 0
 EqualLabelsMeanOneCoset = (n : ℕ) → 0 < n → n ≤ 3 → (v w : List ℕ) → IsWord n v → IsWord n w → (label : Label)
     → IsLabelOfWord n v label → IsLabelOfWord n w label → SameCosetWords n v w
 
+-- words of one coset have one label
+abbrev pub CosetsHaveOneLabel : Type 0
+CosetsHaveOneLabel = (n : ℕ) → 0 < n → n ≤ 3 → (v w : List ℕ) → IsWord n v → IsWord n w → SameCosetWords n v w → (label other : Label)
+    → IsLabelOfWord n v label → IsLabelOfWord n w other → label ≡ other
+
 -- a word has at most one label
 abbrev pub WordsHaveOneLabel : Type 0
 WordsHaveOneLabel = (n : ℕ) → 0 < n → n ≤ 3 → (word : List ℕ) → IsWord n word → (label other : Label)
@@ -65,3 +71,18 @@ TablesAreClasses = (n : ℕ) → IsTableEquivalence n
 -- looking for each column of one table among those of the other tells whether they lie in one coset
 abbrev pub CosetsAreDecided : Type 0
 CosetsAreDecided = (n : ℕ) (a b : ScaledTable) → Decides (in_one_coset n a b) (SameCoset n a b)
+
+-- what stands in front keeps cosets: a table, and so a step
+abbrev pub ProductsKeepCosets : Type 0
+ProductsKeepCosets = (n : ℕ) (a b c : ScaledTable) → SameCoset n b c → SameCoset n (table_product n a b) (table_product n a c)
+
+abbrev pub StepsKeepCosets : Type 0
+StepsKeepCosets = (n : ℕ) (s : Step) (a b : ScaledTable) → SameCoset n a b → SameCoset n (stepped n s a) (stepped n s b)
+
+-- the least exponent of a table is at most that of each table of its coset
+abbrev pub ExponentsBoundTables : Type 0
+ExponentsBoundTables = (n : ℕ) (a b : ScaledTable) → HasLeastExponent n a → SameCoset n a b → a.exponent ≤ b.exponent
+
+-- and at most the number of letters of each word of its coset
+abbrev pub ExponentsBoundWords : Type 0
+ExponentsBoundWords = (n : ℕ) (m : ScaledTable) → HasLeastExponent n m → (w : List ℕ) → SameCoset n m (word_channel n w) → m.exponent ≤ length w

@@ -1,6 +1,6 @@
 // Labels of cosets, in room of their own.
 ghost use Rattle.std.specs.Prelude.{◌≡◌, ◌≢◌, ℕ, ◌+◌, ◌^◌, ◌<◌, ◌≤◌, ◌↔◌, List, [], ◌∷◌, length, IsTrue, IfOk};
-ghost use Rattle.channel_rep.specs.Cells.{scaled, IsReduced};
+ghost use Rattle.channel_rep.specs.Cells.{scaled, most_exponent, IsReduced};
 ghost use Rattle.channel_rep.specs.Tables.{ScaledTable, IsBuiltOf, IsCircuitChannel};
 ghost use Rattle.channel_rep.specs.Words.{IsWord};
 ghost use Rattle.coset_label.specs.Cosets.{SameCoset, SameCosetWords};
@@ -61,7 +61,6 @@ pub fn channel_of_word(word: Word, channel: &mut Channel)
     ensures qubits { channel.new.qubits ≡ channel.old.qubits }
     ensures built { IsBuiltOf channel.old.qubits (word_steps word.letters) (scaled channel.new) }
     ensures exponent { channel.new.exponent ≡ length word.letters }
-    ensures grown { channel.new.grown ≡ length word.letters }
     ensures valid { IsShortWord word }
 {
     channel.make_identity();
@@ -78,7 +77,7 @@ fn channel_of_front(suffix: &Channel, letter: Pauli, channel: &mut Channel)
     requires same { suffix.now.qubits ≡ channel.old.qubits }
     requires letter { letter.qubits ≡ suffix.now.qubits }
     requires other { letter.code ≢ 0 }
-    requires room { suffix.now.grown < 62 }
+    requires room { suffix.now.exponent < most_exponent }
     ensures qubits { channel.new.qubits ≡ channel.old.qubits }
     ensures built { (w : List ℕ) → IsBuiltOf channel.old.qubits (word_steps w) (scaled suffix.now)
         → IsBuiltOf channel.old.qubits (word_steps (letter.code ∷ w)) (scaled channel.new) }
@@ -124,7 +123,7 @@ impl Scratch {
     /// The exponent of the label: the power of √2 by which every number of it is divided.
     pub fn exponent(&self) -> u32
         ensures value { result ≡ self.now.label.exponent }
-        ensures room { result ≤ 62 }
+        ensures low { result ≤ most_exponent }
     {
         self.channel.exponent()
     }
@@ -160,7 +159,7 @@ pub fn label_of_front(suffix: &Channel, letter: Pauli, s: &mut Scratch)
     requires same { suffix.now.qubits ≡ s.old.qubits }
     requires letter { letter.qubits ≡ suffix.now.qubits }
     requires other { letter.code ≢ 0 }
-    requires room { suffix.now.grown < 62 }
+    requires room { suffix.now.exponent < most_exponent }
     ensures qubits { s.new.qubits ≡ s.old.qubits }
     ensures label { (w : List ℕ) → IsBuiltOf s.old.qubits (word_steps w) (scaled suffix.now)
         → IsLabelOfWord s.old.qubits (letter.code ∷ w) s.new.label }

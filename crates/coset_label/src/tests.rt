@@ -1,4 +1,5 @@
 ghost use Rattle.std.specs.Prelude.{◌≡◌, ◌≢◌, ◌+◌, ◌<◌, ◌≤◌, length, IfOk};
+ghost use Rattle.channel_rep.specs.Cells.{most_exponent};
 ghost use Rattle.coset_label.specs.Words.{most_letters};
 
 use crate::{
@@ -140,7 +141,7 @@ fn front_agrees(alloc: Global, w: Word, c: &Channel, letter: Pauli) -> Result<bo
     requires qubits { w.qubits ≡ 2 }
     requires room { length w.letters < 6 }
     requires channel { c.now.qubits ≡ 2 }
-    requires grown { c.now.grown < 62 }
+    requires low { c.now.exponent < most_exponent }
     requires letter { letter.qubits ≡ 2 }
     requires other { letter.code ≢ 0 }
 {

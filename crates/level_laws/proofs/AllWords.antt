@@ -1,4 +1,4 @@
--- All words of a length, in order, and the filter of them that is the level.
+-- Lemmas for the crates above: all words of a length, in order, and the filter of them that is the level.
 use Rattle.std.proofs.Common.{◌≡◌, ℕ, zero, suc, Bool, true, false, not, ◌&&◌, ◌+◌, ◌-◌, ◌^◌, ◌<◌, ◌≤◌, List, [], ◌∷◌, length, map, flat_map, slice_index_or, Contains, Decides, refl, ap, sym, ◌∙◌, subst, inl, inr, arith, true≢false}
 use Rattle.std.specs.List.{list_any, range_with_len}
 use Rattle.std.specs.List.Sorted.{IsStrictlySortedBy}

@@ -12,7 +12,7 @@ pub record IsSuffix (n : ℕ) (s : Suffix) : Type 0 where
   pub qubits : s.word.qubits ≡ n
   pub channel : s.channel.qubits ≡ n
   pub built : IsBuiltOf n (word_steps s.word.letters) (scaled s.channel)
-  pub grown : s.channel.grown ≡ length s.word.letters
+  pub exponent : s.channel.exponent ≡ length s.word.letters
 
 -- room for labels on n qubits, and such a word
 pub record IsHand (n : ℕ) (h : Hand) : Type 0 where

@@ -4,7 +4,8 @@ ghost use Rattle.coset_label.specs.Words.{most_letters};
 ghost use Rattle.coset_table.specs.Ends.{counts_in};
 ghost use Rattle.level_laws.specs.Levels.{candidate_at};
 ghost use Rattle.level_store.specs.Filling.{position_count, height_of, last_letters, IsFilled, OffersAdd, TellsNew};
-ghost use Rattle.level_store.specs.Stored.{qubits_of_all, levels_of, letters_in, AreLevels, IsStored, IsStoredWord};
+ghost use Rattle.level_store.specs.InOrder.{IsLevelOf};
+ghost use Rattle.level_store.specs.Stored.{qubits_of_all, levels_of, letters_in, IsStoredWord};
 
 use crate::hand::{Hand, hands_of, seats_of};
 use crate::level::Level;
@@ -56,8 +57,7 @@ impl<'a> Job<Hand> for Filling<'a> {
 impl Levels {
     /// The last level.
     fn last(&self) -> &Level
-        requires levels { AreLevels self.now }
-        ensures stored { IsStored (qubits_of_all self.now) (height_of self.now) result.now }
+        ensures number { IsLevelOf (qubits_of_all self.now) (height_of self.now) result.now }
         ensures letters { letters_in result.now ≡ last_letters self.now }
     {
         self.level(self.height())
@@ -65,7 +65,6 @@ impl Levels {
 
     /// The number of letters that a word may begin with.
     fn letters(&self) -> u64
-        requires levels { AreLevels self.now }
         ensures { result + 1 ≡ 4 ^ qubits_of_all self.now }
     {
         (1 << (2 * self.n)) - 1
@@ -73,7 +72,6 @@ impl Levels {
 
     /// The number of positions of the last level's candidates.
     fn positions(&self) -> u64
-        requires levels { AreLevels self.now }
         requires room { length (levels_of self.now) ≤ most_letters (qubits_of_all self.now) }
         ensures value { result ≡ position_count self.now }
         ensures few { result < 2 ^ 24 }
@@ -83,7 +81,6 @@ impl Levels {
 
     /// The candidate at a position, in its two parts: a letter, and the word of the last level that it stands before.
     fn parts_at(&self, position: u64) -> (Pauli, Word)
-        requires levels { AreLevels self.now }
         requires room { length (levels_of self.now) ≤ most_letters (qubits_of_all self.now) }
         requires position { position < position_count self.now }
         ensures letter { result.0.qubits ≡ qubits_of_all self.now }
@@ -101,7 +98,6 @@ impl Levels {
 
     /// Whether the coset with a label stands neither in the last level nor in the one below.
     fn is_new(&self, label: &Scratch, other: &mut Scratch) -> bool
-        requires levels { AreLevels self.now }
         requires label { label.now.qubits ≡ qubits_of_all self.now }
         requires other { other.old.qubits ≡ qubits_of_all self.now }
         ensures other { other.new.qubits ≡ other.old.qubits }
@@ -123,7 +119,6 @@ impl Levels {
         workers: u32,
         gate: &G,
     ) -> Result<Buckets, AllocError>
-        requires levels { AreLevels self.now }
         requires room { length (levels_of self.now) ≤ most_letters (qubits_of_all self.now) }
         requires some { 1 ≤ workers }
         requires few { workers ≤ 8 }

@@ -9,7 +9,10 @@ use Rattle.clifford_rest.proofs.TFree.{is_permutation}
 use Rattle.channel_rep.specs.Tables.{ScaledTable, built, SameTable, IsBuiltOf, IsCircuitChannel}
 use Rattle.channel_rep.proofs.Built.{same_table_sym, same_table_trans}
 use Rattle.channel_rep.specs.Words.{IsWord}
+use Rattle.channel_rep.specs.Products.{table_product}
+use Rattle.channel_rep.proofs.Products.{tables_right, tables_left}
 use Rattle.coset_label.specs.Words.{word_channel}
+use Rattle.coset_label.proofs.InFront.{coset_before}
 use Rattle.tc_bridge.specs.Block.{word_gates}
 use Rattle.tc_bridge.specs.Steps.{steps_of}
 use Rattle.tc_bridge.proofs.CircuitChannels.{circuit_channel, steps_fit}
@@ -19,12 +22,10 @@ use Rattle.tc_bridge.proofs.OneChannel.{same_channel, same_up_to}
 use Rattle.tc_bridge.proofs.Unitary.{unitary_circuit}
 use Rattle.meet_laws.specs.Laws.{IsLeastCircuit}
 use Rattle.level_laws.specs.Levels.{IsInCoset, IsLeastWord, NoneBelow, removed}
-use Rattle.level_laws.proofs.Joined.{joined, joined_right, joined_left}
-use Rattle.level_laws.proofs.Cosets.{coset_before}
 use Rattle.level_laws.proofs.Inverses.{put_back}
 use Rattle.level_laws.proofs.Circuits.{circuit_word, circuits_joined, word_built}
 use Rattle.meet_laws.proofs.Cliffords.{HasClifford}
-use Rattle.meet_laws.proofs.Follow.{clifford_behind}
+use Rattle.meet_laws.proofs.Between.{clifford_behind}
 use Rattle.level_laws.proofs.LeastWords.{least_word_exists}
 
 -- a word of t letters in the coset of m
@@ -55,9 +56,9 @@ module _ (n : ℕ) (some : 0 < n) (few : n ≤ 3) (c : List Gate) (hc : IsCircui
       let gates = d ++ word_gates n w in
       let fits = all-append (circuit.Fits n) d (word_gates n w) hd (word_circuit n some few w hw) in
       let channel : SameTable n (built n (steps_of gates)) m =
-      same_table_trans n _ (joined n (built n (steps_of (word_gates n w))) (built n (steps_of d))) _ (circuits_joined n some few d (word_gates n w))
-      (same_table_trans n _ (joined n (word_channel n w) (built n (steps_of d))) _ (joined_left n _ _ _ (word_built n some few w hw))
-      (same_table_trans n _ (joined n (word_channel n w) (removed n m w)) _ (joined_right n _ _ _ same) (put_back n some few w hw m))) in
+      same_table_trans n _ (table_product n (built n (steps_of (word_gates n w))) (built n (steps_of d))) _ (circuits_joined n some few d (word_gates n w))
+      (same_table_trans n _ (table_product n (word_channel n w) (built n (steps_of d))) _ (tables_left n _ _ _ (word_built n some few w hw))
+      (same_table_trans n _ (table_product n (word_channel n w) (removed n m w)) _ (tables_right n _ _ _ same) (put_back n w hw m))) in
       same_up_to n (matrix_of n c).table (matrix_of n gates).table (matrix_of n c).exponent (matrix_of n gates).exponent (built n (steps_of c)) (built n (steps_of gates))
       (unitary_circuit n some few c hc) (unitary_circuit n some few gates fits) (circuit_channel n some few c hc) (circuit_channel n some few gates fits)
       (same_table_trans n _ m _ (same_table_sym n _ _ is) (same_table_sym n _ _ channel))

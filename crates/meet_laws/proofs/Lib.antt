@@ -1,4 +1,5 @@
 pub mod Cliffords
+pub mod Between
 pub mod Follow
 pub mod Parts
 pub mod Fronts

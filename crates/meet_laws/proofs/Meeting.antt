@@ -1,4 +1,4 @@
--- Halves that meet spell the least word.
+-- Lemmas for the crates above: halves that meet spell the least word.
 use Rattle.std.proofs.Common.{◌≡◌, ℕ, ◌+◌, ◌<◌, ◌≤◌, List, ◌++◌, length, ap, sym, ◌∙◌, subst, inl, inr, arith, length-append}
 use Rattle.std.proofs.lemmas.Bool.{cases_order, cases_lt}
 use Rattle.channel_rep.specs.Tables.{ScaledTable}
@@ -7,11 +7,12 @@ use Rattle.channel_rep.proofs.Built.{same_table_sym}
 use Rattle.coset_label.specs.Words.{word_channel}
 use Rattle.coset_label.proofs.OneCoset.{same_coset_sym, same_coset_trans}
 use Rattle.coset_label.specs.Order.{IsEarlier}
+use Rattle.coset_label.proofs.InFront.{coset_after}
 use Rattle.level_laws.specs.Levels.{IsInCoset, IsLeastWord, NoneBelow, Meets, removed}
 use Rattle.level_laws.proofs.Earlier.{earlier_irrefl, earlier_asym}
 use Rattle.meet_laws.proofs.Fronts.{IsSplit, split, AreFronts}
 use Rattle.meet_laws.proofs.Parts.{Joins, first_meeting}
-use Rattle.level_laws.proofs.Cosets.{coset_after, word-append, word_front, word_behind, word_both}
+use Rattle.level_laws.proofs.Cosets.{word-append, word_front, word_behind, word_both}
 use Rattle.level_laws.proofs.Inverses.{off_to_whole, whole_to_off}
 use Rattle.level_laws.proofs.LeastWords.{least_word_exists, behind_least}
 
@@ -21,14 +22,14 @@ module _ (n : ℕ) (some : 0 < n) (few : n ≤ 3) (m : ScaledTable) where
   pub meets_in_coset : (h : ℕ) (a b : List ℕ) → IsWord n a → Meets n m h a b → IsInCoset n m (a ++ b)
   meets_in_coset h a b ha meets = record {
     word = word_both n a b ha meets.level.least.member.word;
-    coset = coset_after n m _ _ (off_to_whole n some few m a b ha meets.same) (same_table_sym n _ _ (word-append n a b));
+    coset = coset_after n m _ _ (off_to_whole n m a b ha meets.same) (same_table_sym n _ _ (word-append n a b));
   }
 
   -- each front of a least word meets what is behind it
   pub least_meets : (a b : List ℕ) → IsLeastWord n m (a ++ b) → Meets n m (length b) a b
   least_meets a b least = record {
     level = behind_least n m a b least;
-    same = whole_to_off n some few m a b (word_front n a b least.member.word) (coset_after n m _ _ least.member.coset (word-append n a b));
+    same = whole_to_off n m a b (word_front n a b least.member.word) (coset_after n m _ _ least.member.coset (word-append n a b));
   }
 
   -- what it meets is the least that makes a word of the coset behind it
@@ -45,7 +46,7 @@ module _ (n : ℕ) (some : 0 < n) (few : n ≤ 3) (m : ScaledTable) where
       behind : (v : List ℕ) → IsInCoset n m (a ++ v) → IsInCoset n (word_channel n b) v
       behind v s = record {
         word = word_behind n a v s.word;
-        coset = same_coset_trans n _ (removed n m a) _ (same_coset_sym n _ _ meets.same) (whole_to_off n some few m a v ha (coset_after n m _ _ s.coset (word-append n a v)));
+        coset = same_coset_trans n _ (removed n m a) _ (same_coset_sym n _ _ meets.same) (whole_to_off n m a v ha (coset_after n m _ _ s.coset (word-append n a v)));
       }
 
   module _ (f h count : ℕ) (front : ℕ → List ℕ) (fronts : AreFronts n f count front) (none : NoneBelow n m (f + h)) where

@@ -1,4 +1,4 @@
--- The totals of the search, even and odd.
+-- Lemmas for the crates above: the totals of the search, even and odd.
 use Rattle.std.proofs.Common.{◌≡◌, ℕ, ◌+◌, ◌-◌, ◌*◌, ◌^◌, ◌<◌, ◌≤◌, List, [], length, slice_index_or, sym, subst, arith, length-append}
 use Rattle.channel_rep.specs.Tables.{ScaledTable}
 use Rattle.meet_laws.specs.Laws.{TellsTotal}

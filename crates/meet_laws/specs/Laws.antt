@@ -3,25 +3,41 @@ use Rattle.std.specs.Prelude.{◌≡◌, ◌↔◌, ℕ, ◌+◌, ◌-◌, ◌*�
 use Rattle.tc_circuit.specs.Model.{IsCircuit, Same, t_count_of, IsLeastTCount}
 use Rattle.tc_circuit.specs.declared.circuit.Gate.{Gate}
 use Rattle.channel_rep.specs.Cells.{ChannelGrid, scaled, IsReduced, IsSignedPermutation}
-use Rattle.channel_rep.specs.Tables.{ScaledTable, SameTable, built, IsBuiltOf, IsCircuitChannel}
+use Rattle.channel_rep.specs.Products.{identity_table, table_product}
+use Rattle.channel_rep.specs.Tables.{SurdTable, ScaledTable, SameTable, built, IsBuiltOf, IsCircuitChannel}
 use Rattle.channel_rep.specs.Words.{IsWord}
+use Rattle.coset_label.specs.Cosets.{SameCoset, IsSignedPermutationTable, DiffersByPermutation}
+use Rattle.coset_label.specs.Words.{word_channel}
 use Rattle.tc_bridge.specs.Block.{word_gates}
 use Rattle.tc_bridge.specs.Steps.{steps_of}
 use Rattle.level_laws.specs.Levels.{IsInCoset, IsLeastWord, NoneBelow, removed, IsLevelWord, IsLevel, Meets, front_at}
 
--- ---- channels as tables
--- to have the same entries is an equivalence of tables
-pub record IsEquivalence (n : ℕ) : Type 0 where
-  pub reflexive : (a : ScaledTable) → SameTable n a a
-  pub symmetric : (a b : ScaledTable) → SameTable n a b → SameTable n b a
-  pub transitive : (a b c : ScaledTable) → SameTable n a b → SameTable n b c → SameTable n a c
+-- ---- Clifford operators and cosets
+-- a circuit without T gates has a channel in the coset of the identity
+abbrev pub CliffordsLieWithIdentity : Type 0
+CliffordsLieWithIdentity = (n : ℕ) → 0 < n → n ≤ 3 → (c : List Gate) → IsCircuit n c → t_count_of c ≡ 0 → SameCoset n (built n (steps_of c)) identity_table
 
-abbrev pub TablesCompare : Type 0
-TablesCompare = (n : ℕ) → IsEquivalence n
+-- a is b·G for the channel G of a circuit without T gates
+pub record DiffersByClifford (n : ℕ) (a b : ScaledTable) : Type 0 where
+  pub gates : List Gate
+  pub fits : IsCircuit n gates
+  pub no_t : t_count_of gates ≡ 0
+  pub product_is : SameTable n a (table_product n b (built n (steps_of gates)))
 
--- a table that the steps of a circuit build is a circuit's channel
-abbrev pub BuiltTablesAreChannels : Type 0
-BuiltTablesAreChannels = (n : ℕ) (c : List Gate) → IsCircuit n c → (m : ScaledTable) → IsBuiltOf n (steps_of c) m → IsCircuitChannel n m
+-- two circuits' channels lie in one coset exactly where they differ by one
+abbrev pub CosetsDifferByCliffords : Type 0
+CosetsDifferByCliffords = (n : ℕ) → 0 < n → n ≤ 3 → (a b : ScaledTable) → IsCircuitChannel n a → IsCircuitChannel n b → SameCoset n a b ↔ DiffersByClifford n a b
+
+-- a word v as long as w, with m·R(w) = R(v)·Π for a signed permutation Π
+pub record IsMovedWord (n : ℕ) (m : ScaledTable) (w v : List ℕ) : Type 0 where
+  pub word : IsWord n v
+  pub long : length v ≡ length w
+  pub differs : DiffersByPermutation n (table_product n m (word_channel n w)) (word_channel n v)
+
+-- a signed permutation that is a circuit's channel moves behind each word so
+abbrev pub PermutationsMoveBehindWords : Type 0
+PermutationsMoveBehindWords = (n : ℕ) → 0 < n → n ≤ 3 → (p : SurdTable) → IsSignedPermutationTable n p → IsCircuitChannel n (record { table = p; exponent = 0 })
+    → (w : List ℕ) → IsWord n w → (v : List ℕ) × IsMovedWord n (record { table = p; exponent = 0 }) w v
 
 -- ---- least words and least circuits
 -- each front and each back of a least word is the least word of its own coset

@@ -1,12 +1,18 @@
 //! The facts on which the search in the middle rests.
 //!
 //! Each of these functions does nothing. Its contract is the law, for a caller's proof to use.
-ghost use Rattle.meet_laws.specs.Laws.{TablesCompare, BuiltTablesAreChannels, PartsAreLeast, LeastCountsExist, LeastCountsAreLengths, CountsPassBounds, WordsStandBehindRests, RestsArePermutations, LeastWordsMakeCircuits, EvenTotals, OddTotals};
+ghost use Rattle.meet_laws.specs.Laws.{CliffordsLieWithIdentity, CosetsDifferByCliffords, PermutationsMoveBehindWords, PartsAreLeast, LeastCountsExist, LeastCountsAreLengths, CountsPassBounds, WordsStandBehindRests, RestsArePermutations, LeastWordsMakeCircuits, EvenTotals, OddTotals};
 
-/// Tables compare by their entries, whatever their powers of √2, and those that a circuit's steps build are circuits' channels.
-pub fn channels_compare()
-    ensures equal { TablesCompare }
-    ensures built { BuiltTablesAreChannels }
+/// The channels of circuits without T gates lie in the coset of the identity, and two circuits' channels lie in one coset
+/// exactly where they differ by such a circuit on the right.
+pub fn cosets_differ_by_cliffords()
+    ensures identity { CliffordsLieWithIdentity }
+    ensures between { CosetsDifferByCliffords }
+{}
+
+/// A signed permutation that is a circuit's channel, before a word, moves behind a word as long, up to another one.
+pub fn permutations_move_behind_words()
+    ensures { PermutationsMoveBehindWords }
 {}
 
 /// Each front and each back of a least word is the least word of its own coset.

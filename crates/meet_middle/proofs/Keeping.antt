@@ -1,7 +1,7 @@
 -- What a worker keeps is told by its cells.
-use Rattle.std.proofs.Common.{◌≡◌, ℕ, ◌^◌, ◌%◌, ◌<◌, Bool, ◌==◌, ◌&&◌, ltb, nat_abs, List, refl, ap}
+use Rattle.std.proofs.Common.{◌≡◌, ℕ, ◌^◌, ◌%◌, ◌<◌, Bool, ◌==◌, ◌&&◌, nat_abs, List, refl, ap}
 use Rattle.std.specs.Bool.{Decides}
-use Rattle.std.proofs.lemmas.Bool.Decides.{Decides-like, Decides-and, Decides-or, Decides-eqb, Decides-int_eq, Decides-ltb, Decides-below_and, Decides-below_or}
+use Rattle.std.proofs.lemmas.Bool.Decides.{Decides-like, Decides-and, Decides-or, Decides-eqb, Decides-int_eq, Decides-below_and, Decides-below_or}
 use Rattle.ring_laws.specs.Ring.{power}
 use Rattle.tc_ring.specs.Surds.{Surd, surds, surd_times, root2_surd, IsOdd}
 use Rattle.tc_ring.proofs.Surds.{same_surd as surds_same}
@@ -44,5 +44,5 @@ pub kept_decided : (n : ℕ) (target : ScaledTable) (word : List ℕ) (m : Chann
 unfolding is_kept
 kept_decided n target word m =
     let same = same_table n (scaled m) (removed n target word) in
-    Decides-like (m.qubits == n && (same && (is_reduced m && ltb m.grown 54))) (λ h. record { qubits = h.0; table = h.1.0; reduced = h.1.1.0; room = h.1.1.1 }) (λ h. (h.qubits, (h.table, (h.reduced, h.room))))
-    (Decides-and (m.qubits == n) _ (Decides-eqb m.qubits n) (Decides-and same _ (same_table_decided n (scaled m) (removed n target word)) (Decides-and (is_reduced m) (ltb m.grown 54) (reduced_decided m) (Decides-ltb m.grown 54))))
+    Decides-like (m.qubits == n && (same && is_reduced m)) (λ h. record { qubits = h.0; table = h.1.0; reduced = h.1.1 }) (λ h. (h.qubits, (h.table, h.reduced)))
+    (Decides-and (m.qubits == n) _ (Decides-eqb m.qubits n) (Decides-and same _ (same_table_decided n (scaled m) (removed n target word)) (reduced_decided m)))

@@ -16,7 +16,8 @@ use Rattle.level_laws.proofs.Positions.{even_front}
 use Rattle.level_laws.proofs.Finding.{found_of_same}
 use Rattle.level_laws.proofs.Removed.{removed_step}
 use Rattle.level_store.specs.declared.level.Level.{Level}
-use Rattle.level_store.specs.Stored.{Finds, FindsLabel, IsStored, qubits_of, len_of}
+use Rattle.level_store.specs.InOrder.{qubits_of, len_of, IsLevelOf}
+use Rattle.level_store.specs.Stored.{Finds, FindsLabel}
 use Rattle.meet_middle.proofs.Removing.{remove_letter}
 
 -- a look tells of each table of the same value
@@ -66,10 +67,10 @@ past_letter n some few kept least half p good l target word same found =
     let here : IsFound n half (removed n kept (p ∷ [])) found.0 = found_of_same n half _ _ found.0 (same_table_sym n _ _ (one_letter_off n kept target word p same)) found.1 in
     none_past n kept least (half + 1) l (p ∷ found.0) (meets_in_coset n some few kept half (p ∷ []) found.0 (good, tt) here) (omega (arith, here.level.letters))
 
--- a look into a stored level, by the level's own numbers
-pub finds_named : (l : Level) (n k : ℕ) → IsStored n k l → (label : Label) (r : Option RotationWord) → FindsLabel (qubits_of l) (len_of l) label r → (m : ScaledTable) → IsCircuitChannel n m → IsLabelOf n m label
+-- a look into a level, by the level's own numbers
+pub finds_named : (l : Level) (n k : ℕ) → IsLevelOf n k l → (label : Label) (r : Option RotationWord) → FindsLabel (qubits_of l) (len_of l) label r → (m : ScaledTable) → IsCircuitChannel n m → IsLabelOf n m label
     → Finds n k m r
-finds_named l n k stored label r finds m =
-    let at : FindsLabel n (len_of l) label r = subst (λ (q : ℕ). FindsLabel q (len_of l) label r) stored.qubits finds in
-    let both : FindsLabel n k label r = subst (λ (j : ℕ). FindsLabel n j label r) stored.len at in
+finds_named l n k is label r finds m =
+    let at : FindsLabel n (len_of l) label r = subst (λ (q : ℕ). FindsLabel q (len_of l) label r) is.qubits finds in
+    let both : FindsLabel n k label r = subst (λ (j : ℕ). FindsLabel n j label r) is.len at in
     both m

@@ -1,13 +1,14 @@
 -- What a worker keeps of the target from one position to the next.
-use Rattle.std.specs.Prelude.{◌≡◌, ℕ, ◌%◌, ◌^◌, ◌<◌, ◌≤◌, ltb, Bool, true, ◌&&◌, ◌||◌, ◌==◌, nat_abs, List, [], Option, None, Some, slice_index_or}
+use Rattle.std.specs.Prelude.{◌≡◌, ℕ, ◌*◌, ◌%◌, ◌^◌, ◌<◌, ◌≤◌, Bool, true, ◌&&◌, ◌||◌, ◌==◌, nat_abs, List, [], Option, None, Some, slice_index_or}
 use Rattle.ring_laws.specs.Ring.{power}
 use Rattle.tc_ring.specs.Surds.{surds, surd_times, root2_surd}
 use Rattle.channel_rep.specs.Cells.{ChannelGrid, scaled, table_of, IsReduced}
 use Rattle.channel_rep.specs.Tables.{ScaledTable, SameTable, IsCircuitChannel}
 use Rattle.level_laws.specs.Levels.{removed}
 use Rattle.level_store.specs.declared.level.Level.{Level}
-use Rattle.level_store.specs.Stored.{IsStored}
+use Rattle.level_store.specs.InOrder.{IsLevelOf}
 use Rattle.coset_label.specs.Decided.{at_all, at_some, same_surd}
+use Rattle.coset_label.specs.Words.{most_letters}
 
 -- whether two tables have the same entries, both brought to one power of √2
 unfoldable pub same_table : ℕ → ScaledTable → ScaledTable → Bool
@@ -18,26 +19,27 @@ same_table n a b =
 unfoldable pub is_reduced : ChannelGrid → Bool
 is_reduced m = m.exponent == 0 || at_some (λ row. at_some (λ column. nat_abs (table_of m row column).a % 2 == 1) (4 ^ m.qubits)) (4 ^ m.qubits)
 
--- a channel is the target without a word, with the least exponent; its cells have room for more letters
+-- a channel is the target without a word, with the least exponent
 pub record IsKept (n : ℕ) (target : ScaledTable) (word : List ℕ) (m : ChannelGrid) : Type 0 where
   pub qubits : m.qubits ≡ n
   pub table : SameTable n (scaled m) (removed n target word)
   pub reduced : IsReduced m
-  pub room : m.grown < 54
 
 -- whether it is
 unfoldable pub is_kept : ℕ → ScaledTable → List ℕ → ChannelGrid → Bool
-is_kept n target word m = m.qubits == n && (same_table n (scaled m) (removed n target word) && (is_reduced m && ltb m.grown 54))
+is_kept n target word m = m.qubits == n && (same_table n (scaled m) (removed n target word) && is_reduced m)
 
 -- whether a channel is the target without the word of a number, where a number is given
 abbrev pub keeps : ℕ → List (List ℕ) → ScaledTable → Option ℕ → ChannelGrid → Bool
 keeps n words target None m = true
 keeps n words target (Some number) m = is_kept n target (slice_index_or words number []) m
 
--- what holds wherever a front is asked: the target is a circuit's channel with room for more letters, and the level is one
--- of words of half the letters
+-- what holds wherever a front is asked: the target is a circuit's channel, whose exponent is at most the letters of the longest
+-- words that are looked for, and the level is one of words of half the letters
 pub record IsAsked (n half : ℕ) (target : ChannelGrid) (level : Level) : Type 0 where
+  pub some : 0 < n
+  pub few : n ≤ 3
   pub qubits : target.qubits ≡ n
-  pub grown : target.grown ≤ 44
+  pub low : target.exponent ≤ 2 * most_letters n
   pub circuit : IsCircuitChannel n (scaled target)
-  pub stored : IsStored n half level
+  pub number : IsLevelOf n half level

@@ -1,6 +1,7 @@
 // The fronts of a total.
 ghost use Rattle.std.specs.Prelude.{◌≡◌, ◌≢◌, ◌-◌, ◌^◌, ◌<◌, ◌≤◌, Bool, IfSome};
-ghost use Rattle.level_store.specs.Stored.{letters_in, IsStored};
+ghost use Rattle.level_store.specs.InOrder.{IsLevelOf};
+ghost use Rattle.level_store.specs.Stored.{letters_in};
 ghost use Rattle.meet_middle.specs.Fronts.{fronts_of, number_of, middle_of};
 ghost use Rattle.meet_middle.specs.Halves.{middle_letters};
 
@@ -42,7 +43,9 @@ pub fn front(n: u8, odd: bool, position: u64) -> (u64, Option<Pauli>)
 
 /// The number of fronts of a total.
 pub fn front_count(level: &Level, n: u8, half: u8, odd: bool) -> u64
-    requires stored { IsStored n half level.now }
+    requires some { 0 < n }
+    requires few { n ≤ 3 }
+    requires number { IsLevelOf n half level.now }
     ensures value { result ≡ fronts_of n (letters_in level.now) odd }
     ensures few { result < 2 ^ 30 }
 {

@@ -4,7 +4,7 @@ ghost use Rattle.channel_rep.specs.Cells.{scaled, IsReduced};
 ghost use Rattle.channel_rep.specs.Tables.{IsCircuitChannel};
 ghost use Rattle.coset_label.specs.Words.{most_letters};
 ghost use Rattle.level_laws.specs.Levels.{NoneBelow};
-ghost use Rattle.level_store.specs.Stored.{AreLevels, qubits_of_all, levels_of};
+ghost use Rattle.level_store.specs.Stored.{qubits_of_all, levels_of};
 ghost use Rattle.meet_middle.specs.Answers.{IsAnswer};
 ghost use Rattle.meet_middle.specs.Fronts.{total_of};
 
@@ -25,12 +25,10 @@ fn reach<H: Threads + Sync, G: Turnstile + Sync>(
     workers: u32,
     gate: &G,
 ) -> Result<(), AllocError>
-    requires levels { AreLevels levels.old }
     requires near { half ≤ length (levels_of levels.old) }
     requires limit { half ≤ most_letters (qubits_of_all levels.old) }
     requires some { 1 ≤ workers }
     requires few { workers ≤ 8 }
-    ensures levels { AreLevels levels.new }
     ensures qubits { qubits_of_all levels.new ≡ qubits_of_all levels.old }
     ensures there { IfOk result (λ _. half < length (levels_of levels.new)) }
     ensures low { (k : ℕ) → length (levels_of levels.old) ≤ k + 1 → half ≤ k → length (levels_of levels.new) ≤ k + 1 }
@@ -71,15 +69,12 @@ pub fn least_word<H: Threads + Sync, G: Turnstile + Sync>(
     workers: u32,
     gate: &G,
 ) -> Result<Answer, AllocError>
-    requires levels { AreLevels levels.old }
     requires same { qubits_of_all levels.old ≡ target.now.qubits }
     requires circuit { IsCircuitChannel target.now.qubits (scaled target.now) }
     requires reduced { IsReduced target.now }
-    requires grown { target.now.grown ≤ 44 }
     requires bound { bound ≤ 2 * most_letters target.now.qubits }
     requires some { 1 ≤ workers }
     requires few { workers ≤ 8 }
-    ensures levels { AreLevels levels.new }
     ensures qubits { qubits_of_all levels.new ≡ qubits_of_all levels.old }
     ensures low { (k : ℕ) → length (levels_of levels.old) ≤ k + 1 → bound ≤ 2 * k + 1 → length (levels_of levels.new) ≤ k + 1 }
     ensures answer { IfOk result (IsAnswer target.now.qubits (scaled target.now) bound) }

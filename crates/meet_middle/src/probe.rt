@@ -1,9 +1,11 @@
 // What a worker searches with.
-ghost use Rattle.std.specs.Prelude.{◌≡◌, ◌≢◌, ℕ, ◌^◌, ◌<◌, ◌≤◌, true, List, [], ◌++◌, Some, All, IfOk, IfSome, length, slice_index_or};
+ghost use Rattle.std.specs.Prelude.{◌≡◌, ◌≢◌, ℕ, ◌*◌, ◌^◌, ◌<◌, ◌≤◌, true, List, [], ◌++◌, Some, All, IfOk, IfSome, length, slice_index_or};
 ghost use Rattle.channel_rep.specs.Cells.{scaled, IsReduced};
 ghost use Rattle.channel_rep.specs.Tables.{ScaledTable, SameTable, IsCircuitChannel};
+ghost use Rattle.coset_label.specs.Words.{most_letters};
 ghost use Rattle.level_laws.specs.Levels.{removed};
-ghost use Rattle.level_store.specs.Stored.{Finds, IsStored, letters_in, words_of};
+ghost use Rattle.level_store.specs.InOrder.{IsLevelOf};
+ghost use Rattle.level_store.specs.Stored.{Finds, letters_in, words_of};
 ghost use Rattle.meet_middle.specs.Fronts.{front_of, fronts_of};
 ghost use Rattle.meet_middle.specs.Kept.{IsAsked, IsKept, keeps};
 ghost use Rattle.meet_middle.specs.Halves.{middle_letters};
@@ -60,7 +62,7 @@ impl<const N: u8> Probe<N> {
     fn keep(&mut self, target: &Channel, level: &Level, number: u64)
         requires fit { ⟦<Probe<N> as Local>⟧.fit self.old ≡ true }
         requires target { target.now.qubits ≡ N }
-        requires grown { target.now.grown ≤ 44 }
+        requires low { target.now.exponent ≤ 2 * most_letters N }
         requires words { All (λ w. w.qubits ≡ N) (words_of level.now) }
         requires below { number < length (words_of level.now) }
         requires keeps { keeps N (letters_in level.now) (scaled target.now) self.old.number self.old.kept ≡ true }
@@ -83,9 +85,8 @@ impl<const N: u8> Probe<N> {
     /// the least exponent by at most one, so nothing is taken off where the exponent of what is kept passes that.
     fn meet(&mut self, level: &Level, half: u8, middle: &Option<Pauli>) -> Option<Word>
         requires fit { ⟦<Probe<N> as Local>⟧.fit self.old ≡ true }
-        requires stored { IsStored N half level.now }
+        requires number { IsLevelOf N half level.now }
         requires reduced { IsReduced self.old.kept }
-        requires room { self.old.kept.grown < 54 }
         requires circuit { IsCircuitChannel N (scaled self.old.kept) }
         requires middle { IfSome middle.now (λ p. (p.qubits ≡ N) × (p.code < 4 ^ N) × (p.code ≢ 0)) }
         ensures fit { ⟦<Probe<N> as Local>⟧.fit self.new ≡ true }

@@ -1,9 +1,10 @@
 // What is left of a channel without the letters of a word.
 ghost use Rattle.std.specs.Prelude.{◌≡◌, ◌+◌, ◌≤◌, length};
-ghost use Rattle.channel_rep.specs.Cells.{scaled, IsReduced};
+ghost use Rattle.channel_rep.specs.Cells.{scaled, most_exponent, IsReduced};
 ghost use Rattle.channel_rep.specs.Tables.{SameTable, IsCircuitChannel};
 ghost use Rattle.level_laws.specs.Levels.{removed};
-ghost use Rattle.level_store.specs.Stored.{Finds, IsStored};
+ghost use Rattle.level_store.specs.InOrder.{IsLevelOf};
+ghost use Rattle.level_store.specs.Stored.{Finds};
 
 use channel_rep::Channel;
 use coset_label::{Scratch, Word, label_into};
@@ -12,9 +13,9 @@ use level_store::Level;
 /// Takes a word off a channel from the left, the first letter first.
 pub fn remove(channel: &mut Channel, word: Word)
     requires same { word.qubits ≡ channel.old.qubits }
-    requires room { channel.old.grown + length word.letters ≤ 62 }
+    requires room { channel.old.exponent + length word.letters ≤ most_exponent }
     ensures qubits { channel.new.qubits ≡ channel.old.qubits }
-    ensures grown { channel.new.grown ≡ channel.old.grown + length word.letters }
+    ensures exponent { channel.new.exponent ≡ channel.old.exponent + length word.letters }
     ensures table { SameTable channel.old.qubits (scaled channel.new) (removed channel.old.qubits (scaled channel.old) word.letters) }
 {
     for i in 0..word.len() {
@@ -31,7 +32,7 @@ pub fn find_rest(
     label: &mut Scratch,
     other: &mut Scratch,
 ) -> Option<Word>
-    requires stored { IsStored channel.now.qubits half level.now }
+    requires number { IsLevelOf channel.now.qubits half level.now }
     requires label { label.old.qubits ≡ channel.now.qubits }
     requires other { other.old.qubits ≡ channel.now.qubits }
     requires reduced { IsReduced channel.now }

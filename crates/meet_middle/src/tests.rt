@@ -1,9 +1,11 @@
 ghost use Rattle.std.specs.Prelude.{◌≡◌, ◌*◌, ◌<◌, ◌≤◌, IsTrue, IfOk};
+ghost use Rattle.channel_rep.specs.Cells.{most_exponent};
 ghost use Rattle.coset_label.specs.Words.{most_letters};
 ghost use Rattle.tc_circuit.specs.Gate.{Fits};
 ghost use Rattle.tc_circuit.specs.Model.{t_count_of};
 
 use crate::{Answer, Word2, least_word};
+use channel_rep::MOST_EXPONENT;
 use level_store::Levels;
 use std::alloc::{AllocError, Global};
 use std::process::Abort;
@@ -28,7 +30,7 @@ fn circuit_of(rt: &impl Abort, alloc: Global, n: u8, gates: &[Gate]) -> Result<C
     requires some { 0 < n }
     requires few { n ≤ 3 }
     ensures qubits { IfOk result (λ c. c.qubits ≡ n) }
-    ensures few_t { IfOk result (λ c. t_count_of c.gates ≤ 44) }
+    ensures few_t { IfOk result (λ c. t_count_of c.gates ≤ most_exponent) }
 {
     let mut circuit = Circuit::new(alloc, n);
     for gate in gates {
@@ -36,7 +38,7 @@ fn circuit_of(rt: &impl Abort, alloc: Global, n: u8, gates: &[Gate]) -> Result<C
         circuit.push(*gate)?;
     }
     assert!(rt; circuit.gates().len() <= 1_000);
-    assert!(rt; circuit.t_count() <= 44);
+    assert!(rt; circuit.t_count() <= MOST_EXPONENT);
     Ok(circuit)
 }
 

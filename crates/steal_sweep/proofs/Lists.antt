@@ -1,4 +1,4 @@
--- Lists and their images: what holds of each element, and sums.
+-- Lemmas for the crates above: lists and their images: what holds of each element, and sums.
 use Rattle.std.proofs.Common.{◌≡◌, ℕ, zero, suc, ◌+◌, ◌<◌, List, [], ◌∷◌, ◌++◌, All, length, map, flat_map, sum_by, get_or, take, drop, Some, slice_get, refl, sym, ap, ◌∙◌, subst, arith}
 use Rattle.std.proofs.Math.Seq.{take-append_seam, drop-append_seam}
 use Rattle.std.proofs.lemmas.List.{get_or-map, length-map}

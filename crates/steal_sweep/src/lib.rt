@@ -28,7 +28,7 @@ pub use job::Job;
 pub use least::least_hit;
 pub use search::{Search, Seeker};
 pub use sweep::{Local, Sweep, Test};
-pub use turnstile::{OpenWay, Turnstile};
+pub use turnstile::{Delay, OpenWay, Turnstile};
 
 #[cfg(test)]
 mod tests;

@@ -1,4 +1,4 @@
--- Conjugate transposes.
+-- Lemmas for the crates above: conjugate transposes.
 use Rattle.std.proofs.Common.{◌≡◌, ℕ, zero, suc, refl, ap, sym, ◌∙◌, inl, inr}
 use Rattle.std.proofs.lemmas.Bool.{cases_eq}
 use Rattle.ring_laws.specs.Matrix.{sum, product, identity}

@@ -1,4 +1,4 @@
--- The matrix of gates behind others.
+-- Lemmas for the crates above: the matrix of gates behind others.
 use Rattle.std.proofs.Common.{ℕ, List, [], ◌∷◌, ◌++◌, sym, subst}
 use Rattle.tc_circuit.specs.Gate.{gate_table, gate_exponent}
 use Rattle.tc_circuit.specs.Model.{ScaledMatrix, after, matrix_of}

@@ -1,4 +1,4 @@
--- The matrices a·I + b·P.
+-- Lemmas for the crates above: the matrices a·I + b·P.
 use Rattle.std.proofs.Common.{ℕ, ◌^◌, [], ◌∷◌}
 use Rattle.ring_laws.specs.Matrix.{product, identity}
 use Rattle.ring_laws.specs.Cyclotomic.{Zω, cyclotomics, plus, times}

@@ -1,4 +1,4 @@
--- A letter's block is R(P) exactly.
+-- Lemmas for the crates above: a letter's block is R(P) exactly.
 use Rattle.std.proofs.Common.{◌≡◌, ◌≢◌, ℕ, ◌^◌, ◌<◌, ◌≤◌, Bool, true, false, not, ◌&&◌, ◌||◌, eqb, eqb→eq, ltb, ltb→lt, leb, leb→le, length, T as Holds, List, [], ◌∷◌, T_not, refl, subst}
 use lib.Dec.{eqb_refl}
 use Rattle.std.specs.List.{AllByRecursion}
@@ -16,7 +16,7 @@ use Rattle.channel_rep.specs.declared.gate.ChannelGate.TheVariants.{H, S, Sdg, C
 use Rattle.channel_rep.specs.Gates.{Fits, image}
 use Rattle.tc_bridge.specs.Rotation.{axis, rotation}
 use Rattle.tc_bridge.specs.Steps.{z_on}
-use Rattle.tc_bridge.specs.Block.{opening, highest, conjugated, block}
+use Rattle.tc_bridge.specs.Block.{opening, highest, conjugated_gates, block}
 use Rattle.tc_bridge.proofs.AllGates.{or_right}
 use Rattle.tc_bridge.proofs.CircuitChannels.{t_axis}
 use Rattle.tc_bridge.proofs.ScaledMatrices.{Equal, equal-sym, ◌⊚◌}
@@ -102,7 +102,7 @@ module _ (n : ℕ) (some : 0 < n) (few : n ≤ 3) (p : ℕ) (l : p < 4 ^ n) (d :
       }
 
   -- a gate that is a·I + b·Z, between the opening and its inverse, is a·I + b·P
-  pub opened_is : (center : Gate) (a b : Zω) (j : ℕ) → Equal n (gate_matrix center) (record { table = axis n a b (z_on (highest n p)); exponent = j }) → Equal n (matrix_of n (conjugated (opening n p) center)) (record { table = axis n a b p; exponent = j })
+  pub opened_is : (center : Gate) (a b : Zω) (j : ℕ) → Equal n (gate_matrix center) (record { table = axis n a b (z_on (highest n p)); exponent = j }) → Equal n (matrix_of n (conjugated_gates (opening n p) center)) (record { table = axis n a b p; exponent = j })
   opened_is center a b j h = conjugated_is n some few (opening n p) center a b (z_on (highest n p)) j opening_is.fits h (record { code = p; is_negative = false }) l opening_is.is ⊚ equal-sym (plain_axis n a b p j)
 
   -- a letter's block has the matrix R(P), exactly

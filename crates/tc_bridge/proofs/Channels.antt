@@ -1,4 +1,4 @@
--- The equation of a channel, between matrices; channels multiply.
+-- Lemmas for the crates above: the equation of a channel, between matrices; channels multiply.
 use Rattle.std.proofs.Common.{ℕ, ◌+◌, ◌^◌, ◌<◌, sym}
 use Rattle.ring_laws.specs.Ring.{power}
 use Rattle.ring_laws.specs.Matrix.{sum, product}

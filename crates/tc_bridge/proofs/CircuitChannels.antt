@@ -1,4 +1,4 @@
--- Each gate's step has its channel, and so each circuit has the channel that its steps build.
+-- Lemmas for the crates above: each gate's step has its channel, and so each circuit has the channel that its steps build.
 use Rattle.std.proofs.Common.{◌≡◌, ◌≢◌, ℕ, suc, ◌*◌, ◌^◌, ◌<◌, ◌≤◌, List, [], ◌∷◌, Bool, true, false, ◌&&◌, T as Holds, ap, ◌∙◌, arith, pow-suc}
 use Rattle.std.proofs.Math.Nat.{pow-le-pow_right, one-le-pow}
 use Rattle.std.specs.List.{AllByRecursion}

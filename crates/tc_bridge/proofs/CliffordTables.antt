@@ -1,4 +1,4 @@
--- Tables with one entry in each column, 1 or −1, under gates, and those that gates build. Crates above cite this module.
+-- Lemmas for the crates above: tables with one entry in each column, 1 or −1, under gates, and those that gates build.
 use Rattle.std.proofs.Common.{◌≡◌, ◌≢◌, ℕ, ◌+◌, ◌^◌, ◌<◌, ◌≤◌, Bool, true, false, List, [], ◌∷◌, refl, ap, sym, ◌∙◌, inl, inr, arith}
 use Rattle.std.specs.List.{AllByRecursion}
 use Rattle.std.proofs.lemmas.Bool.{cases_eq}

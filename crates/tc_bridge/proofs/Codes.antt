@@ -1,4 +1,4 @@
--- Conjugation of codes by gates and by their inverses. Crates above cite this module.
+-- Lemmas for the crates above: conjugation of codes by gates and by their inverses.
 use Rattle.std.proofs.Common.{◌≡◌, ℕ, ◌^◌, ◌<◌, ◌≤◌, Bool, true, false, ◌&&◌, T as Holds, eqb, eqb→eq, List, [], ◌∷◌, length, refl, ap, sym, ◌∙◌, arith}
 use Rattle.std.specs.List.{AllByRecursion}
 use Rattle.std.proofs.lemmas.List.{length-append}

@@ -1,4 +1,5 @@
--- Clifford gates move past a·I + b·P as they conjugate P, and so a gate between Clifford gates and their inverses is conjugated.
+-- Lemmas for the crates above: Clifford gates move past a·I + b·P as they conjugate P, and so a gate between Clifford gates
+-- and their inverses is conjugated.
 use Rattle.std.proofs.Common.{◌≡◌, ℕ, ◌+◌, ◌^◌, ◌<◌, ◌≤◌, List, [], ◌∷◌, ◌++◌, Bool, false, T as Holds, refl, ap, sym, ◌∙◌, subst, add_comm, append_assoc}
 use Rattle.std.specs.List.{AllByRecursion}
 use Rattle.ring_laws.specs.Ring.{power}
@@ -19,7 +20,7 @@ use Rattle.channel_rep.specs.Gates.{Fits, image}
 use Rattle.channel_rep.specs.Tables.{turned_over}
 use Rattle.tc_bridge.specs.Pauli.{sign}
 use Rattle.tc_bridge.specs.Rotation.{axis, scaled_product}
-use Rattle.tc_bridge.specs.Block.{as_gate, as_gates, inverse_gate, undone, conjugated}
+use Rattle.tc_bridge.specs.Block.{as_gate, as_gates, inverse_gate, undone, conjugated_gates}
 use Rattle.tc_bridge.proofs.Decide.{same_number, number_equal}
 use Rattle.tc_bridge.proofs.Powers.{sign-false, sign-times}
 use Rattle.tc_bridge.proofs.Adjoints.{adjoint}
@@ -128,7 +129,7 @@ as_gates-append [] d = refl
 as_gates-append (g ∷ c) d = ap (λ (x : List Gate). as_gate g ∷ x) (as_gates-append c d)
 
 -- one Clifford gate more on both sides
-conjugated-cons : (g : ChannelGate) (gates : List ChannelGate) (center : Gate) → conjugated (g ∷ gates) center ≡ as_gate g ∷ (conjugated gates center ++ (as_gate (inverse_gate g) ∷ []))
+conjugated-cons : (g : ChannelGate) (gates : List ChannelGate) (center : Gate) → conjugated_gates (g ∷ gates) center ≡ as_gate g ∷ (conjugated_gates gates center ++ (as_gate (inverse_gate g) ∷ []))
 conjugated-cons g gates center =
     ap (λ (x : List Gate). as_gate g ∷ (as_gates gates ++ (center ∷ x))) (as_gates-append (undone gates) (inverse_gate g ∷ []))
     ∙ ap (λ (x : List Gate). as_gate g ∷ x) (sym (append_assoc (as_gates gates) (center ∷ as_gates (undone gates)) (as_gate (inverse_gate g) ∷ [])))
@@ -140,14 +141,14 @@ plain_axis n a b p j = subst (λ (x : Zω). Equal n (record { table = axis n a b
 module _ (n : ℕ) (some : 0 < n) (few : n ≤ 3) where
   -- where the Clifford gates take a Pauli to that of the center, the whole is the center with the first Pauli
   pub conjugated_is : (gates : List ChannelGate) (center : Gate) (a b : Zω) (z j : ℕ) → AllByRecursion (Fits n) gates → Equal n (gate_matrix center) (record { table = axis n a b z; exponent = j })
-      → (s : Signed) → s.code < 4 ^ n → images n gates s ≡ record { code = z; is_negative = false } → Equal n (matrix_of n (conjugated gates center)) (signed_axis n a b s j)
+      → (s : Signed) → s.code < 4 ^ n → images n gates s ≡ record { code = z; is_negative = false } → Equal n (matrix_of n (conjugated_gates gates center)) (signed_axis n a b s j)
   conjugated_is [] center a b z j fits h s l e = gate_is n center ⊚ h ⊚ subst (λ (t : Signed). Equal n (record { table = axis n a b z; exponent = j }) (signed_axis n a b t j)) (sym e) (plain_axis n a b z j)
   conjugated_is (g ∷ gates) center a b z j fits h s l e =
       let u = gate_matrix (as_gate g) in
       let v = gate_matrix (as_gate (inverse_gate g)) in
       let back = as_gate (inverse_gate g) ∷ [] in
       subst (λ (c : List Gate). Equal n (matrix_of n c) (signed_axis n a b s j)) (sym (conjugated-cons g gates center)) (
-      cons_is n (as_gate g) (conjugated gates center ++ back)
-      ⊚ mul-right (append_is n (conjugated gates center) back ⊚ mul-right (gate_is n (as_gate (inverse_gate g))) _ ⊚ mul-left v (conjugated_is gates center a b z j fits.1 h (signed_image n g s) (image-lt n some few g fits.0 s.code l) e)) u
+      cons_is n (as_gate g) (conjugated_gates gates center ++ back)
+      ⊚ mul-right (append_is n (conjugated_gates gates center) back ⊚ mul-right (gate_is n (as_gate (inverse_gate g))) _ ⊚ mul-left v (conjugated_is gates center a b z j fits.1 h (signed_image n g s) (image-lt n some few g fits.0 s.code l) e)) u
       ⊚ mul_assoc v _ u ⊚ mul-left v (equal-sym (gate_axis n some few g fits.0 a b s j l)) ⊚ equal-sym (mul_assoc v u _)
       ⊚ mul-right (inverse_is n some few g fits.0) _ ⊚ one-mul _)

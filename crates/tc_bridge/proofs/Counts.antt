@@ -1,4 +1,4 @@
--- Which circuits Clifford gates, blocks and words make, and how many T gates these have.
+-- Lemmas for the crates above: which circuits Clifford gates, blocks and words make, and how many T gates these have.
 use Rattle.std.proofs.Common.{◌≡◌, ◌≢◌, ℕ, ◌+◌, ◌^◌, ◌<◌, ◌≤◌, List, [], ◌∷◌, ◌++◌, length, cond, refl, arith}
 use Rattle.std.proofs.lemmas.List.Sums.{sum_by-cons, sum_by-append}
 use Rattle.std.specs.List.{AllByRecursion}

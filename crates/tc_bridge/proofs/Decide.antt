@@ -1,4 +1,4 @@
--- Equality of numbers, and a search below a bound, as tests that compute.
+-- Lemmas for the crates above: equality of numbers, and a search below a bound, as tests that compute.
 use Rattle.std.proofs.Common.{◌≡◌, ℕ, zero, suc, ◌<◌, Bool, true, false, ◌&&◌, ◌||◌, T, eqb, refl, ap, sym, subst, arith, eqb→eq}
 use lib.Dec.{eqb_refl}
 use Rattle.std.specs.Prelude.{ℤ, pos, negsuc}

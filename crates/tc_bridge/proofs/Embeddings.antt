@@ -1,4 +1,4 @@
--- Sums, matrices and powers of √2 among the numbers of Z[ω].
+-- Lemmas for the crates above: sums, matrices and powers of √2 among the numbers of Z[ω].
 use Rattle.std.proofs.Common.{◌≡◌, ℕ, zero, suc, ◌^◌, ◌<◌, Bool, true, false, ap, sym, ◌∙◌, inl, inr}
 use Rattle.std.specs.Prelude.{pos}
 use Rattle.std.proofs.lemmas.Bool.{cases_eq}

@@ -1,4 +1,4 @@
--- The entries of identity matrices, over any commutative ring.
+-- Lemmas for the crates above: the entries of identity matrices, over any commutative ring.
 use Rattle.std.proofs.Common.{◌≡◌, ℕ, ◌+◌, ◌*◌, ◌/◌, ◌%◌, Bool, true, false, cond, eqb, eqb→eq, T as Holds, refl, ap, sym, subst, ◌∙◌, inl, inr}
 use Rattle.std.specs.Prelude.{pos}
 use Rattle.std.proofs.lemmas.Bool.{cases_eq}

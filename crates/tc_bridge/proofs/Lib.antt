@@ -30,6 +30,7 @@ pub mod Counts
 pub mod Rising
 pub mod Traces
 pub mod Clauses
+pub mod Squares
 pub mod Prefixes
 pub mod Taken
 pub mod Codes

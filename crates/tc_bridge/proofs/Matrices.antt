@@ -1,4 +1,5 @@
--- Square matrices over any commutative ring, by their laws: equations below a size, and what products, sums, multiples and linear combinations keep.
+-- Lemmas for the crates above: square matrices over any commutative ring, by their laws: equations below a size, and what
+-- products, sums, multiples and linear combinations keep.
 use mathlib.Core.Path.{◌≡◌, refl, sym, ap, ◌∙◌}
 use Prim.Native.Nat.{ℕ, ◌<◌}
 use lib.IntN.{pos}

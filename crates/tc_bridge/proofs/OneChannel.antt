@@ -1,4 +1,5 @@
--- Unitary matrices with one channel are the same up to a phase, and those that are have one channel.
+-- Lemmas for the crates above: unitary matrices with one channel are the same up to a phase, and those that are have one
+-- channel.
 use Rattle.std.proofs.Common.{◌≡◌, ℕ, ◌+◌, ◌^◌, ◌<◌, refl, ap, sym, ◌∙◌, lit<}
 use Rattle.std.proofs.Math.Nat.{one-le-pow}
 use Rattle.ring_laws.specs.Ring.{power}

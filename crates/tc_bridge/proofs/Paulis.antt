@@ -1,4 +1,4 @@
--- Products of Pauli matrices are those of their codes.
+-- Lemmas for the crates above: products of Pauli matrices are those of their codes.
 use Rattle.std.proofs.Common.{◌≡◌, ℕ, zero, suc, ◌/◌, ◌%◌, ◌^◌, ◌<◌, Bool, bit_xor, ◌*◌, refl, ap, sym, ◌∙◌, T, pow-suc, mod-lt, lit<, arith}
 use Rattle.std.proofs.lemmas.Nat.{xor_shr, xor_mod}
 use Rattle.std.specs.Int.Bits.{xor_self}

@@ -1,4 +1,4 @@
--- Powers of ω, i and √2.
+-- Lemmas for the crates above: powers of ω, i and √2.
 use Rattle.std.proofs.Common.{◌≡◌, ℕ, Bool, true, false, zero, suc, ◌+◌, ◌*◌, ◌/◌, ◌%◌, refl, ap, sym, ◌∙◌, arith}
 use Rattle.std.specs.Prelude.{pos}
 use Rattle.ring_laws.specs.Ring.{power}

@@ -1,13 +1,14 @@
 -- The first gates of a circuit: their steps and their T gates.
-use Rattle.std.proofs.Common.{◌≡◌, ℕ, ◌+◌, ◌<◌, ◌≤◌, List, [], ◌∷◌, ◌++◌, length, take, get_or, cond, refl, ap, sym, ◌∙◌, subst, subst₂, add-one, add-zero}
+use Rattle.std.proofs.Common.{◌≡◌, ℕ, ◌+◌, ◌<◌, ◌≤◌, List, [], ◌∷◌, ◌++◌, length, take, drop, get_or, cond, refl, ap, sym, ◌∙◌, subst, subst₂, add-one, add-zero, arith}
 use Rattle.std.proofs.Math.Seq.{take-suc}
 use Rattle.std.proofs.lemmas.List.{take_all}
+use Rattle.std.proofs.lemmas.List.Sums.{sum_by-take-drop}
 use Rattle.tc_circuit.specs.Gate.{is_t}
 use Rattle.tc_circuit.specs.Model.{t_count_of}
 use Rattle.tc_circuit.specs.declared.circuit.Gate.{Gate}
 use Rattle.channel_rep.specs.Tables.{Step, ScaledTable, IsBuiltOf}
 use Rattle.tc_bridge.specs.Steps.{step_of, steps_of}
-use Rattle.tc_bridge.proofs.Counts.{t_count-cons, t_count-append}
+use Rattle.tc_bridge.proofs.Counts.{t_of, t_count-cons, t_count-append}
 
 -- the steps of two lists of gates
 steps_of-append : (c d : List Gate) → steps_of (c ++ d) ≡ steps_of c ++ steps_of d
@@ -22,6 +23,12 @@ module _ (gates : List Gate) (i : ℕ) (l : i < length gates) (none : Gate) wher
   -- their T gates
   pub count_more : t_count_of (take (i + 1) gates) ≡ t_count_of (take i gates) + cond (is_t (get_or gates i none)) 1 0
   count_more = ap t_count_of one_more ∙ t_count-append (take i gates) (get_or gates i none ∷ []) ∙ ap (λ k. t_count_of (take i gates) + k) (t_count-cons (get_or gates i none) [] ∙ add-zero _)
+
+  -- no more than all have
+  pub count_low : t_count_of (take i gates) + cond (is_t (get_or gates i none)) 1 0 ≤ t_count_of gates
+  count_low =
+      let all : t_count_of (take (i + 1) gates) + t_count_of (drop (i + 1) gates) ≡ t_count_of gates = sum_by-take-drop t_of gates (i + 1) in
+      omega (arith, count_more)
 
   -- their steps
   pub steps_more : steps_of (take (i + 1) gates) ≡ steps_of (take i gates) ++ step_of (get_or gates i none) ∷ []

@@ -8,7 +8,7 @@ use Rattle.tc_circuit.specs.declared.circuit.Gate.{Gate}
 use Rattle.channel_rep.specs.declared.gate.ChannelGate.{ChannelGate}
 use Rattle.channel_rep.specs.declared.gate.ChannelGate.TheVariants.{Cx}
 use Rattle.pauli_basis.specs.Letters.{letter_of}
-use Rattle.tc_bridge.specs.Block.{as_gates, undone, inverse_gate, letter_to_z, to_z, gather, rising, highest, conjugated, block, Appends}
+use Rattle.tc_bridge.specs.Block.{as_gates, undone, inverse_gate, letter_to_z, to_z, gather, rising, highest, conjugated_gates, block, Appends}
 use Rattle.tc_bridge.proofs.Conjugations.{as_gates-append}
 
 -- ---- lists
@@ -143,4 +143,4 @@ block_pieces n p z old e =
     let gathers = rising (gather z p) n 0 in
     regroup old (as_gates front) (as_gates gathers) (as_gates (undone gathers)) (as_gates (undone front)) (Gate.T z)
     ∙ (λ i. old ++ (sym (as_gates-append front gathers) i ++ (Gate.T z ∷ sym (ap as_gates (undone-append front gathers) ∙ as_gates-append (undone gathers) (undone front)) i)))
-    ∙ ap (λ k. old ++ conjugated (front ++ rising (gather k p) n 0) (Gate.T k)) e
+    ∙ ap (λ k. old ++ conjugated_gates (front ++ rising (gather k p) n 0) (Gate.T k)) e

@@ -1,4 +1,4 @@
--- The channel of a rotation by a Pauli, and of its inverse.
+-- Lemmas for the crates above: the channel of a rotation by a Pauli, and of its inverse.
 use Rattle.std.proofs.Common.{◌≡◌, ℕ, ◌^◌, ◌<◌, Bool, true, false, not, T, [], ◌∷◌, refl, ap, sym, ◌∙◌}
 use Rattle.std.proofs.lemmas.Bool.{cond-true, cond-false}
 use Rattle.ring_laws.specs.Ring.{power}

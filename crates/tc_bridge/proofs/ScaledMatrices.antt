@@ -1,4 +1,4 @@
--- Matrices over a power of √2: equal ones, equal ones up to a power of ω, and their products.
+-- Lemmas for the crates above: matrices over a power of √2: equal ones, equal ones up to a power of ω, and their products.
 use Rattle.std.proofs.Common.{◌≡◌, ℕ, ◌+◌, ◌%◌, ◌^◌, ◌<◌, refl, ap, sym, ◌∙◌, zero-add, add-zero, add_assoc, add_comm, mod-lt, lit<}
 use Rattle.ring_laws.specs.Ring.{power}
 use Rattle.ring_laws.specs.Matrix.{identity}

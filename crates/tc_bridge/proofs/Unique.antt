@@ -1,4 +1,4 @@
--- A unitary matrix has one channel at most.
+-- Lemmas for the crates above: a unitary matrix has one channel at most.
 use Rattle.std.proofs.Common.{◌≡◌, ℕ, ◌+◌, ◌^◌, ◌<◌, sym}
 use Rattle.ring_laws.specs.Ring.{power}
 use Rattle.ring_laws.specs.Matrix.{product}

@@ -1,4 +1,4 @@
--- The conjugate transpose of a circuit's matrix is its inverse, up to a power of 2.
+-- Lemmas for the crates above: the conjugate transpose of a circuit's matrix is its inverse, up to a power of 2.
 use Rattle.std.proofs.Common.{◌≡◌, ℕ, ◌+◌, ◌^◌, ◌<◌, ◌≤◌, Bool, ◌&&◌, T as Holds, List, [], ◌∷◌, ap, sym, ◌∙◌, arith}
 use Rattle.ring_laws.specs.Ring.{power}
 use Rattle.ring_laws.specs.Matrix.{sum, product, identity}

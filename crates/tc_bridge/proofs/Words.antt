@@ -1,4 +1,5 @@
--- Each circuit is a word of rotations behind a circuit without T gates, and each word has a circuit.
+-- Lemmas for the crates above: each circuit is a word of rotations behind a circuit without T gates, and each word has a
+-- circuit.
 use Rattle.std.proofs.Common.{◌≡◌, ◌≢◌, ℕ, suc, ◌+◌, ◌^◌, ◌<◌, ◌≤◌, List, [], ◌∷◌, ◌++◌, length, cond, Bool, true, false, not, ◌||◌, ◌==◌, eqb, eqb→eq, T as Holds, T_not, refl, ap, sym, ◌∙◌, subst, zero-add, add-zero, add-one, add_assoc}
 use Rattle.std.proofs.lemmas.List.Sums.{sum_by-cons}
 use Rattle.std.specs.List.{AllByRecursion}

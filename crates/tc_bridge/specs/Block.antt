@@ -64,12 +64,12 @@ abbrev pub opening : ℕ → ℕ → List ChannelGate
 opening n p = rising (to_z p) n 0 ++ rising (gather (highest n p) p) n 0
 
 -- the Clifford gates, one gate, and the Clifford gates undone
-abbrev pub conjugated : List ChannelGate → Gate → List Gate
-conjugated gates center = as_gates gates ++ (center ∷ as_gates (undone gates))
+abbrev pub conjugated_gates : List ChannelGate → Gate → List Gate
+conjugated_gates gates center = as_gates gates ++ (center ∷ as_gates (undone gates))
 
 -- the block of p
 abbrev pub block : ℕ → ℕ → List Gate
-block n p = conjugated (opening n p) (Gate.T (highest n p))
+block n p = conjugated_gates (opening n p) (Gate.T (highest n p))
 
 -- the blocks of a word, the last letter's first, so that the matrix is R(P1)· .. ·R(Pt)
 abbrev pub word_gates : ℕ → List ℕ → List Gate

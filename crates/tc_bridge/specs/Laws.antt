@@ -1,19 +1,20 @@
 -- What the laws of this crate say.
-use Rattle.std.specs.Prelude.{◌≡◌, ◌↔◌, ℕ, ◌+◌, ◌^◌, ◌<◌, ◌≤◌, false, not, List, length}
+use Rattle.std.specs.Prelude.{◌≡◌, ◌↔◌, ℕ, ◌+◌, ◌^◌, ◌<◌, ◌≤◌, ◌≢◌, false, not, List, length}
 use Rattle.ring_laws.specs.Ring.{power}
 use Rattle.ring_laws.specs.Matrix.{sum, product, Agree}
 use Rattle.ring_laws.specs.Cyclotomic.{Zω, cyclotomics, times, negative, conjugate, ω, root2}
 use Rattle.tc_ring.specs.Surds.{surds, embed}
 use Rattle.tc_circuit.specs.Gate.{Table}
-use Rattle.tc_circuit.specs.Model.{matrix_of, IsCircuit, SameUpTo, Same, t_count_of}
+use Rattle.tc_circuit.specs.Model.{ScaledMatrix, matrix_of, IsCircuit, SameUpTo, Same, t_count_of}
 use Rattle.tc_circuit.specs.declared.circuit.Gate.{Gate}
 use Rattle.pauli_basis.specs.Products.{product_code, turns, commute, anti_sign}
-use Rattle.channel_rep.specs.Tables.{ScaledTable, SameTable, built}
+use Rattle.channel_rep.specs.Products.{table_of_step}
+use Rattle.channel_rep.specs.Tables.{ScaledTable, by_rotation, SameTable, built, IsBuiltOf, IsCircuitChannel}
 use Rattle.channel_rep.specs.Words.{IsWord}
 use Rattle.tc_bridge.specs.Pauli.{imaginary, pauli_matrix, sign}
 use Rattle.tc_bridge.specs.Channel.{IsChannel}
 use Rattle.tc_bridge.specs.Steps.{steps_of}
-use Rattle.tc_bridge.specs.Rotation.{word_matrix, scaled_product, AreEqual}
+use Rattle.tc_bridge.specs.Rotation.{rotation, word_matrix, scaled_product, AreEqual}
 
 -- ---- Pauli operators: the rules of `pauli_basis` on codes are those of the matrices
 -- P·Q = i^t·R
@@ -43,6 +44,14 @@ CircuitsHaveChannels = (n : ℕ) → 0 < n → n ≤ 3 → (gates : List Gate) �
 abbrev pub ChannelsAreUnique : Type 0
 ChannelsAreUnique = (n : ℕ) → 0 < n → n ≤ 3 → (gates : List Gate) → IsCircuit n gates → (c d : ScaledTable)
     → IsChannel n (matrix_of n gates).table c → IsChannel n (matrix_of n gates).table d → SameTable n c d
+
+-- a table that the steps of a circuit build is a circuit's channel
+abbrev pub BuiltTablesAreChannels : Type 0
+BuiltTablesAreChannels = (n : ℕ) (c : List Gate) → IsCircuit n c → (m : ScaledTable) → IsBuiltOf n (steps_of c) m → IsCircuitChannel n m
+
+-- the channel of R(P) is the table of the rotation by P
+abbrev pub RotationsHaveChannels : Type 0
+RotationsHaveChannels = (n p : ℕ) → p < 4 ^ n → IsChannel n (rotation n p).table (table_of_step n (by_rotation p))
 
 -- the channel of V·U is the product of their channels
 abbrev pub ChannelsMultiply : Type 0
@@ -97,3 +106,14 @@ CircuitsAreWords = (n : ℕ) → 0 < n → n ≤ 3 → (gates : List Gate) → I
 abbrev pub WordsHaveCircuits : Type 0
 WordsHaveCircuits = (n : ℕ) → 0 < n → n ≤ 3 → (word : List ℕ) → IsWord n word → (clifford : List Gate) → IsCircuit n clifford → t_count_of clifford ≡ 0
     → (gates : List Gate) × IsCircuitOfWord n word clifford gates
+
+-- ---- squares
+-- a circuit without T gates that has this matrix
+pub record IsCliffordCircuitOf (n : ℕ) (m : ScaledMatrix) (gates : List Gate) : Type 0 where
+  pub fits : IsCircuit n gates
+  pub no_t : t_count_of gates ≡ 0
+  pub equal : AreEqual (2 ^ n) (matrix_of n gates) m
+
+-- R(P)² has one
+abbrev pub SquaresAreCliffords : Type 0
+SquaresAreCliffords = (n : ℕ) → 0 < n → n ≤ 3 → (p : ℕ) → p < 4 ^ n → p ≢ 0 → (gates : List Gate) × IsCliffordCircuitOf n (scaled_product n (rotation n p) (rotation n p)) gates

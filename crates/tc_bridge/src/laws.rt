@@ -1,7 +1,7 @@
 //! The facts that join circuits with channels.
 //!
 //! Each of these functions does nothing. Its contract is the law, for a caller's proof to use.
-ghost use Rattle.tc_bridge.specs.Laws.{PaulisMultiply, PaulisSwap, AntiImages, CircuitsHaveChannels, ChannelsAreUnique, ChannelsMultiply, OneChannelWhereSame, EntriesAreTraces, UnitScalarsArePowers, CircuitsAreWords, WordsHaveCircuits};
+ghost use Rattle.tc_bridge.specs.Laws.{PaulisMultiply, PaulisSwap, AntiImages, CircuitsHaveChannels, ChannelsAreUnique, BuiltTablesAreChannels, RotationsHaveChannels, ChannelsMultiply, OneChannelWhereSame, EntriesAreTraces, UnitScalarsArePowers, CircuitsAreWords, WordsHaveCircuits, SquaresAreCliffords};
 
 /// The rules on codes are those of the Pauli matrices: their products with quarter turns, which of them commute, and −i·P·Q
 /// where they do not.
@@ -15,6 +15,12 @@ pub fn codes_multiply_as_matrices()
 pub fn circuits_have_one_channel()
     ensures exists { CircuitsHaveChannels }
     ensures unique { ChannelsAreUnique }
+    ensures built { BuiltTablesAreChannels }
+{}
+
+/// The table of the rotation by P is the channel of its matrix R(P).
+pub fn rotations_have_channels()
+    ensures { RotationsHaveChannels }
 {}
 
 /// The channel of a product is the product of the channels.
@@ -45,4 +51,9 @@ pub fn circuits_are_words()
 /// Each product of t rotations behind a circuit without T gates has a circuit with t T gates.
 pub fn words_have_circuits()
     ensures { WordsHaveCircuits }
+{}
+
+/// R(P)² is a Clifford operator: the matrix of a circuit without T gates.
+pub fn squares_are_cliffords()
+    ensures { SquaresAreCliffords }
 {}

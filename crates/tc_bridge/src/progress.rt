@@ -2,7 +2,7 @@
 // in one pass, before the next rotation and at the end.
 ghost use Rattle.std.specs.Prelude.{◌≡◌, ◌≢◌, ℕ, ◌+◌, ◌<◌, ◌≤◌, List, [], ◌∷◌, ◌++◌, if◌then◌else◌, IfOk};
 ghost use Rattle.tc_circuit.specs.Gate.{Fits as FitsGate, is_t};
-ghost use Rattle.channel_rep.specs.Cells.{scaled};
+ghost use Rattle.channel_rep.specs.Cells.{scaled, most_exponent};
 ghost use Rattle.channel_rep.specs.Conjugations.{IsConjugationBy};
 ghost use Rattle.channel_rep.specs.Gates.{Fits};
 ghost use Rattle.channel_rep.specs.Tables.{Step, by_gate, by_rotation, by_inverse_rotation, IsBuiltOf};
@@ -44,7 +44,7 @@ impl Progress {
         requires some { 0 < n }
         requires few { n ≤ 3 }
         ensures qubits { IfOk result (λ p. p.channel.qubits ≡ n) }
-        ensures grown { IfOk result (λ p. p.channel.grown ≡ 0) }
+        ensures exponent { IfOk result (λ p. p.channel.exponent ≡ 0) }
         ensures taken { IfOk result (HasTaken []) }
     {
         let channel = Channel::identity(alloc, n)?;
@@ -59,7 +59,7 @@ impl Progress {
     /// Takes the pending gates into the channel.
     fn settle(&mut self)
         ensures qubits { self.new.channel.qubits ≡ self.old.channel.qubits }
-        ensures grown { self.new.channel.grown ≡ self.old.channel.grown }
+        ensures exponent { self.new.channel.exponent ≡ self.old.channel.exponent }
         ensures pending { IsConjugationBy [] self.new.pending }
         ensures built { (steps : List Step) → HasTaken steps self.old
             → IsBuiltOf self.old.channel.qubits steps (scaled self.new.channel) }
@@ -73,7 +73,7 @@ impl Progress {
     fn gather(&mut self, gate: ChannelGate)
         requires { Fits self.old.channel.qubits gate }
         ensures qubits { self.new.channel.qubits ≡ self.old.channel.qubits }
-        ensures grown { self.new.channel.grown ≡ self.old.channel.grown }
+        ensures exponent { self.new.channel.exponent ≡ self.old.channel.exponent }
         ensures taken { (steps : List Step) → HasTaken steps self.old
             → HasTaken (steps ++ by_gate gate ∷ []) self.new }
     {
@@ -83,9 +83,9 @@ impl Progress {
     /// Takes the rotation by Z on a qubit.
     fn rotate(&mut self, q: u8)
         requires qubit { q < self.old.channel.qubits }
-        requires room { self.old.channel.grown < 62 }
+        requires room { self.old.channel.exponent < most_exponent }
         ensures qubits { self.new.channel.qubits ≡ self.old.channel.qubits }
-        ensures grown { self.new.channel.grown ≡ self.old.channel.grown + 1 }
+        ensures exponent { self.new.channel.exponent ≡ self.old.channel.exponent + 1 }
         ensures taken { (steps : List Step) → HasTaken steps self.old
             → HasTaken (steps ++ by_rotation (z_code q) ∷ []) self.new }
     {
@@ -96,9 +96,9 @@ impl Progress {
     /// Takes the inverse of the rotation by Z on a qubit.
     fn rotate_back(&mut self, q: u8)
         requires qubit { q < self.old.channel.qubits }
-        requires room { self.old.channel.grown < 62 }
+        requires room { self.old.channel.exponent < most_exponent }
         ensures qubits { self.new.channel.qubits ≡ self.old.channel.qubits }
-        ensures grown { self.new.channel.grown ≡ self.old.channel.grown + 1 }
+        ensures exponent { self.new.channel.exponent ≡ self.old.channel.exponent + 1 }
         ensures taken { (steps : List Step) → HasTaken steps self.old
             → HasTaken (steps ++ by_inverse_rotation (z_code q) ∷ []) self.new }
     {
@@ -110,9 +110,9 @@ impl Progress {
     /// Takes a gate. A T gate is a rotation by Z, or the inverse of one.
     pub fn take(&mut self, gate: Gate)
         requires fits { FitsGate self.old.channel.qubits gate }
-        requires room { self.old.channel.grown < 62 }
+        requires room { self.old.channel.exponent + (if is_t gate then 1 else 0) ≤ most_exponent }
         ensures qubits { self.new.channel.qubits ≡ self.old.channel.qubits }
-        ensures grown { self.new.channel.grown ≡ self.old.channel.grown + (if is_t gate then 1 else 0) }
+        ensures exponent { self.new.channel.exponent ≡ self.old.channel.exponent + (if is_t gate then 1 else 0) }
         ensures taken { (steps : List Step) → HasTaken steps self.old
             → HasTaken (steps ++ step_of gate ∷ []) self.new }
     {
@@ -129,7 +129,7 @@ impl Progress {
     /// The channel of all gates that were taken.
     pub fn finish(self) -> Channel
         ensures qubits { result.qubits ≡ self.channel.qubits }
-        ensures grown { result.grown ≡ self.channel.grown }
+        ensures exponent { result.exponent ≡ self.channel.exponent }
         ensures built { (steps : List Step) → HasTaken steps self
             → IsBuiltOf self.channel.qubits steps (scaled result) }
     {

@@ -2,6 +2,7 @@ ghost use Rattle.std.specs.Prelude.{◌≡◌, ℕ, ◌+◌, ◌^◌, ◌<◌, �
 ghost use Rattle.tc_circuit.specs.Gate.{Fits};
 
 use crate::{channel_of, laws, rotation_gates};
+use channel_rep::MOST_EXPONENT;
 use pauli_basis::Pauli;
 use std::alloc::{AllocError, Global};
 use std::process::Abort;
@@ -192,7 +193,7 @@ fn assert_channel(
 {
     let c = circuit_of(rt, alloc, n, gates)?;
     assert!(rt; c.gates().len() < 45);
-    assert!(rt; c.t_count() <= 44);
+    assert!(rt; c.t_count() <= MOST_EXPONENT);
     let channel = channel_of(alloc, &c)?;
     assert_eq!(rt; channel.exponent(), exponent);
     let size = codes(n);
@@ -277,4 +278,6 @@ fn laws_are_called() {
     laws::unit_scalars_are_powers();
     laws::circuits_are_words();
     laws::words_have_circuits();
+    laws::rotations_have_channels();
+    laws::squares_are_cliffords();
 }

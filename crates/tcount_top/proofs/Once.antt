@@ -13,18 +13,19 @@ use Rattle.tc_circuit.specs.Circuit.{Gates, IsSmallCircuit}
 use Rattle.tc_circuit.specs.Model.{Same}
 use Rattle.tc_circuit.specs.declared.circuit.Gate.{Gate}
 use Rattle.channel_rep.specs.Cells.{ChannelGrid, scaled, table_of, entries, cell_of, no_cell}
+use Rattle.channel_rep.specs.Laws.{TablesCompare}
 use Rattle.channel_rep.specs.Tables.{SurdTable, ScaledTable, SameTable, IsCircuitChannel, built, signed, stepped, by_inverse_rotation}
 use Rattle.coset_label.specs.Cosets.{SameCoset, HasColumnsOf}
 use Rattle.coset_label.specs.Laws.{TablesAreClasses}
 use Rattle.tc_bridge.specs.Block.{as_gates, undone, word_gates}
-use Rattle.tc_bridge.specs.Laws.{CircuitsHaveChannels, OneChannelWhereSame}
+use Rattle.tc_bridge.specs.Laws.{BuiltTablesAreChannels, CircuitsHaveChannels, OneChannelWhereSame}
 use Rattle.tc_bridge.specs.Steps.{steps_of}
 use Rattle.clifford_rest.specs.Rest.{sent_to, rest_of}
 use Rattle.clifford_rest.specs.Sweep.{undo_list}
 use Rattle.circuit_writer.specs.Shown.{shown}
 use Rattle.level_laws.specs.Levels.{IsInCoset, IsLeastWord, removed}
 use Rattle.level_laws.specs.Laws.{LeastWordsAreUnique, LettersComeOff}
-use Rattle.meet_laws.specs.Laws.{TablesCompare, BuiltTablesAreChannels, RestsArePermutations}
+use Rattle.meet_laws.specs.Laws.{RestsArePermutations}
 use Rattle.tcount_top.specs.Printed.{IsLeft, IsRestThenWord, IsPrinted, word_texts}
 use Rattle.tcount_top.proofs.Printing.{left_permutes}
 

@@ -1,22 +1,31 @@
 -- The printed circuit: the rest that is left without the least word, and the word's blocks behind it.
-use Rattle.std.proofs.Common.{◌≡◌, ℕ, ◌*◌, ◌<◌, ◌≤◌, List, ◌++◌, length, Result, Ok, Err, IfOk, OnOk, ap, sym, subst, arith, length-append}
+use Rattle.std.proofs.Common.{◌≡◌, ℕ, ◌*◌, ◌<◌, ◌≤◌, List, ◌++◌, length, Result, Ok, Err, IfOk, OnOk, ap, sym, subst, inl, inr, arith, length-append}
+use Rattle.std.proofs.lemmas.Bool.{cases_lt}
 use Rattle.tc_circuit.specs.Circuit.{Gates, IsSmallCircuit}
 use Rattle.tc_circuit.specs.Model.{IsCircuit, t_count_of}
 use Rattle.tc_circuit.specs.declared.circuit.Gate.{Gate}
 use Rattle.qasm_reader.specs.Read.{Reads}
 use Rattle.circuit_writer.specs.Shown.{IsWord, shown}
-use Rattle.channel_rep.specs.Cells.{ChannelGrid, scaled, IsSignedPermutation}
+use Rattle.channel_rep.specs.Cells.{ChannelGrid, scaled, IsReduced, IsSignedPermutation}
+use Rattle.channel_rep.specs.Laws.{TablesCompare}
 use Rattle.channel_rep.specs.Tables.{ScaledTable, SameTable, IsBuiltOf, IsCircuitChannel, built}
 use Rattle.tc_bridge.specs.Block.{word_gates}
 use Rattle.tc_bridge.specs.Steps.{steps_of}
 use Rattle.clifford_rest.specs.Rest.{rest_of}
 use Rattle.level_laws.specs.Levels.{IsLeastWord, removed}
-use Rattle.level_laws.specs.Laws.{RestsAreCircuits}
-use Rattle.meet_laws.specs.Laws.{TablesCompare, RestsArePermutations, LeastWordsMakeCircuits}
+use Rattle.level_laws.specs.Laws.{ExponentsBoundLengths, ReducedIsLeast, RestsAreCircuits}
+use Rattle.meet_laws.specs.Laws.{RestsArePermutations, LeastWordsMakeCircuits}
 use Rattle.tcount_top.specs.Printed.{IsLeft, word_texts}
 use Rattle.tcount_top.specs.Out.{ShowsLike}
 
 -- ---- what is left without the least word
+-- a reduced channel's exponent is at most the number of letters of its least word
+pub exponent_low : ExponentsBoundLengths → ReducedIsLeast → (m : ChannelGrid) → IsReduced m → (w : List ℕ) → IsLeastWord m.qubits (scaled m) w → m.exponent ≤ length w
+exponent_low none least m reduced w h = elim (cases_lt (length w) m.exponent) [
+  | inl l ↦ absurd (none m.qubits (scaled m) (least m reduced) (length w) l w h.member (omega arith))
+  | inr l ↦ l
+]
+
 module _ (n : ℕ) (m : ScaledTable) (channel : IsCircuitChannel n m) (w : List ℕ) (least : IsLeastWord n m w) (left : ChannelGrid) (is : IsLeft n m w left) where
   here : (P : ℕ → Type 0) → P n → P left.qubits
   here P p = subst P (sym is.qubits) p

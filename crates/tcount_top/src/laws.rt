@@ -3,9 +3,10 @@
 //! Each of these functions does nothing. Its contract is the law, for a caller's proof to use.
 ghost use Rattle.tcount_top.specs.Laws.{OneCommand, OneOutcome, PrintedOnce, LeastCountsExist, OneAnswerForOneMatrix};
 
+use channel_rep::laws::tables_compare;
 use coset_label::laws::tables_are_classes;
 use level_laws::laws::{cosets_have_least_words, letters_come_off};
-use meet_laws::laws::{channels_compare, least_counts_are_lengths, words_stand_behind_rests};
+use meet_laws::laws::{least_counts_are_lengths, words_stand_behind_rests};
 use qasm_reader::{one_reading, read_circuits_are_small};
 use tc_bridge::laws::{circuits_have_one_channel, one_channel_where_same};
 use tc_ring::surd_laws_hold;
@@ -20,7 +21,7 @@ pub fn printed_once()
     ensures { PrintedOnce }
 {
     surd_laws_hold();
-    channels_compare();
+    tables_compare();
     tables_are_classes();
     circuits_have_one_channel();
     one_channel_where_same();

@@ -2,7 +2,7 @@
 ghost use Rattle.std.specs.Prelude.{◌≡◌, ◌≢◌, ℕ, ◌+◌, ◌*◌, ◌≤◌, ◌++◌, [], ◌∷◌, All, IfOk, OnOk, length};
 ghost use Rattle.tc_circuit.specs.Circuit.{Gates, IsSmallCircuit};
 ghost use Rattle.tc_circuit.specs.Model.{IsCircuit, t_count_of};
-ghost use Rattle.channel_rep.specs.Cells.{scaled, IsReduced};
+ghost use Rattle.channel_rep.specs.Cells.{scaled, most_exponent, IsReduced};
 ghost use Rattle.channel_rep.specs.Tables.{SameTable, IsBuiltOf, IsCircuitChannel};
 ghost use Rattle.coset_label.specs.Words.{most_letters};
 ghost use Rattle.tc_bridge.specs.Block.{block, word_gates};
@@ -13,10 +13,11 @@ ghost use Rattle.tcount_top.specs.Printed.{IsLeft, codes_of};
 ghost use Rattle.tcount_top.specs.Out.{ShowsLike};
 
 use channel_rep::Channel;
+use channel_rep::laws::tables_compare;
 use circuit_writer::text;
 use clifford_rest::rest;
-use level_laws::laws::letters_come_off;
-use meet_laws::laws::{channels_compare, words_stand_behind_rests};
+use level_laws::laws::{exponents_bound_lengths, letters_come_off};
+use meet_laws::laws::words_stand_behind_rests;
 use meet_middle::Word2;
 use pauli_basis::Pauli;
 use printed_texts::printed_texts_read_back;
@@ -45,7 +46,7 @@ fn letters_of(alloc: Global, word: &Word2) -> Result<Vec<Pauli>, AllocError>
 fn take_off(channel: &mut Channel, letters: &[Pauli])
     requires qubits { All (λ p. p.qubits ≡ channel.old.qubits) letters.now }
     requires other { All (λ p. p.code ≢ 0) letters.now }
-    requires room { channel.old.grown + length letters.now ≤ 62 }
+    requires room { channel.old.exponent + length letters.now ≤ most_exponent }
     ensures qubits { channel.new.qubits ≡ channel.old.qubits }
     ensures table { SameTable channel.old.qubits (scaled channel.new)
         (removed channel.old.qubits (scaled channel.old) (codes_of letters.now)) }
@@ -60,11 +61,11 @@ fn take_off(channel: &mut Channel, letters: &[Pauli])
 fn left_without(alloc: Global, channel: &Channel, letters: &[Pauli]) -> Result<Channel, AllocError>
     requires qubits { All (λ p. p.qubits ≡ channel.now.qubits) letters.now }
     requires other { All (λ p. p.code ≢ 0) letters.now }
-    requires room { channel.now.grown + length letters.now ≤ 62 }
+    requires room { channel.now.exponent + length letters.now ≤ most_exponent }
     ensures { IfOk result (λ left. IsLeft channel.now.qubits (scaled channel.now) (codes_of letters.now) left) }
 {
     // Called for its contract: a law.
-    channels_compare();
+    tables_compare();
     let mut left = Channel::identity(alloc, channel.qubits())?;
     left.copy_from(channel);
     take_off(&mut left, letters);
@@ -112,7 +113,7 @@ fn push_all(circuit: &mut Circuit, gates: &[Gate]) -> Result<(), AllocError>
 /// Want of memory.
 pub fn printed(alloc: Global, target: &Channel, word: &Word2) -> Result<Vec<u8>, AllocError>
     requires circuit { IsCircuitChannel target.now.qubits (scaled target.now) }
-    requires grown { target.now.grown ≤ 44 }
+    requires reduced { IsReduced target.now }
     requires qubits { word.now.first.qubits ≡ target.now.qubits }
     requires least { IsLeastWord target.now.qubits (scaled target.now)
         (spelled word.now.first.letters word.now.middle word.now.last.letters) }
@@ -123,7 +124,8 @@ pub fn printed(alloc: Global, target: &Channel, word: &Word2) -> Result<Vec<u8>,
         → ShowsLike c (length (spelled word.now.first.letters word.now.middle word.now.last.letters)) bytes.items) }
 {
     // Called for their contracts: laws.
-    channels_compare();
+    tables_compare();
+    exponents_bound_lengths();
     letters_come_off();
     words_stand_behind_rests();
     printed_texts_read_back();

@@ -2,7 +2,7 @@
 ghost use Rattle.std.specs.Prelude.{◌≡◌, ◌+◌, ◌-◌, ◌<◌, ◌≤◌, ◌++◌, IfOk, OnOk, length, codes, decimal, string_bytes};
 ghost use Rattle.coset_label.specs.Words.{most_letters};
 ghost use Rattle.level_laws.specs.Levels.{level};
-ghost use Rattle.level_store.specs.Stored.{AreLevels, levels_of, qubits_of_all};
+ghost use Rattle.level_store.specs.Stored.{levels_of, qubits_of_all};
 ghost use Rattle.tcount_top.specs.Lines.{levels_line};
 
 use level_store::Levels;
@@ -25,7 +25,6 @@ fn levels_to<H: Threads + Sync, G: Turnstile + Sync>(
     requires low { top ≤ most_letters qubits }
     requires any { 1 ≤ workers }
     requires crew { workers ≤ 8 }
-    ensures levels { IfOk result AreLevels }
     ensures qubits { IfOk result (λ s. qubits_of_all s ≡ qubits) }
     ensures height { IfOk result (λ s. length (levels_of s) ≡ top + 1) }
 {
@@ -38,7 +37,6 @@ fn levels_to<H: Threads + Sync, G: Turnstile + Sync>(
 
 /// The number of words of a level.
 fn size_of(levels: &Levels, k: u8) -> u64
-    requires levels { AreLevels levels.now }
     requires height { k < length (levels_of levels.now) }
     ensures { result ≡ length (level (qubits_of_all levels.now) k) }
 {
@@ -56,7 +54,6 @@ fn push_number(line: &mut String, number: u64) -> Result<(), AllocError>
 
 /// The line of the sizes of all levels.
 fn sizes_line(alloc: Global, levels: &Levels) -> Result<Vec<u8>, AllocError>
-    requires { AreLevels levels.now }
     ensures { IfOk result (λ line. line.items
         ≡ levels_line (qubits_of_all levels.now) (length (levels_of levels.now) - 1)) }
 {

@@ -1,6 +1,7 @@
 //! What `synth` answers to a text.
 ghost use Rattle.std.specs.Prelude.{◌≤◌, ℕ, List, IfOk, length};
 ghost use Rattle.tc_circuit.specs.Model.{t_count_of};
+ghost use Rattle.qasm_reader.specs.Limits.{most_t_gates};
 ghost use Rattle.qasm_reader.specs.Read.{Reads};
 ghost use Rattle.tcount_top.specs.Out.{SynthOut, longest, most_bound};
 
@@ -27,7 +28,7 @@ fn search<H: Threads + Sync, G: Turnstile + Sync>(
     workers: u32,
     gate: &G,
 ) -> Result<(Status, Vec<u8>), AllocError>
-    requires few_t { t_count_of circuit.now.gates ≤ 44 }
+    requires few_t { t_count_of circuit.now.gates ≤ most_t_gates }
     requires bound { bound ≤ most_bound circuit.now.qubits }
     requires some { 1 ≤ workers }
     requires few { workers ≤ 8 }
@@ -59,7 +60,7 @@ fn answer_for<H: Threads + Sync, G: Turnstile + Sync>(
     workers: u32,
     gate: &G,
 ) -> Result<(Status, Vec<u8>), AllocError>
-    requires few_t { t_count_of circuit.now.gates ≤ 44 }
+    requires few_t { t_count_of circuit.now.gates ≤ most_t_gates }
     requires some { 1 ≤ workers }
     requires few { workers ≤ 8 }
     ensures { IfOk result (λ r. (text : List ℕ) → length text ≤ longest → Reads text circuit.now

@@ -1,6 +1,7 @@
 use super::*;
 
 mod gates;
+mod hostile;
 mod made;
 
 use gates::Meeting;

@@ -1,4 +1,4 @@
--- The dealt blocks, one behind the other, are the positions below the total.
+-- Lemmas for the crates above: the dealt blocks, one behind the other, are the positions below the total.
 use Rattle.std.proofs.Common.{◌≡◌, ℕ, zero, suc, ◌+◌, ◌-◌, ◌*◌, ◌<◌, ◌≤◌, ◌⊎◌, ⊎_elim, inl, inr, min, List, ◌∷◌, ◌++◌, All, map, flat_map, length, get_or, sym, ap, ◌∙◌, subst, append-nil, zero-add, zero-mul, arith}
 use Rattle.std.specs.List.{range_with_len}
 use Rattle.std.specs.List.Sorted.{IsStrictlyIncreasing}

@@ -1,4 +1,4 @@
--- What keeps a deal together.
+-- Lemmas for the crates above: what keeps a deal together.
 use Rattle.std.proofs.Common.{◌≡◌, ℕ, suc, ◌<◌, List, [], ◌∷◌, map, length, slice_index_or, refl, sym, ap, ◌∙◌, subst, arith}
 use Rattle.work_shares.specs.declared.share.Share.{Share}
 use Rattle.work_shares.specs.Places.{ArePlaces}

@@ -1,8 +1,8 @@
 -- What a call for a block does to a seat.
-use Rattle.std.proofs.Common.{◌≡◌, ℕ, ◌+◌, ◌<◌, true, List, [], ◌∷◌, ◌++◌, Option, Some, None, IfSome, IfNone, Contains, map, Vec, Global, vec_len, vec_capacity, refl, sym, ap, ◌∙◌, subst, arith}
+use Rattle.std.proofs.Common.{◌≡◌, ℕ, ◌+◌, ◌<◌, ◌⊎◌, inl, inr, true, List, [], ◌∷◌, ◌++◌, Option, Some, None, IfSome, IfNone, Contains, map, Vec, Global, vec_len, vec_capacity, refl, sym, ap, ◌∙◌, subst, arith}
 use Rattle.std.specs.List.{sum_by, Any}
 use Rattle.std.proofs.lemmas.List.Sums.{sum_by_push}
-use Rattle.std.proofs.lemmas.List.{map-append}
+use Rattle.std.proofs.lemmas.List.{map-append, length-map, get_or-map}
 use Rattle.std.proofs.lemmas.List.FromFn.{length-map-range_with_len, get_or-map-range_with_len}
 use Rattle.crossbeam_deque.specs.Handles.{worker_flavor}
 use Rattle.work_shares.specs.declared.block.Block.{Block}
@@ -10,14 +10,14 @@ use Rattle.work_shares.specs.declared.seat.Seat.{Seat}
 use Rattle.work_shares.specs.declared.entry.Entry.{Entry}
 use Rattle.work_shares.specs.declared.entry.Entry.TheVariants.{Work}
 use Rattle.work_shares.specs.declared.entry.View.{View}
-use Rattle.work_shares.specs.Cuts.{block_count, block_at, dealt}
+use Rattle.work_shares.specs.Cuts.{block_count, block_at, dealt, numbers_of, blocks_for}
 use Rattle.work_shares.specs.Blocks.{extent_of, extents_of}
 use Rattle.work_shares.specs.Entries.{ends, blocks_left, weight_of}
 use Rattle.work_shares.specs.Rule.{GotApart}
 use Rattle.work_shares.specs.Thefts.{Steals, pushed_into, got_by, left_into, entries_after}
 use Rattle.work_shares.specs.Places.{Place}
 use Rattle.work_shares.specs.Seats.{own_view, count_of, place_of_seat, seat_left, seat_got, IsMarked, IsStanding, IsSeated, TakesOwn, Takes}
-use Rattle.work_shares.proofs.Pushes.{below_of, below_after}
+use Rattle.work_shares.proofs.Pushes.{below_of, below_after, own_of}
 
 -- a try at the seat's own deque leaves the seat where it stands
 standing-own : (number : Option ℕ) (s t : Seat) → IsStanding s → TakesOwn number s t → IsStanding t
@@ -51,9 +51,14 @@ takes-own number s t h m = record {
   ended = ap (λ (u : Seat). u.ended) m.rest;
   over = m.over;
   below = below-own number s t h m;
+  own = own-own number s t h m;
   got = λ weight none. omega (arith, m.gives.got weight none, ap (λ (u : Seat). sum_by (got_by weight) u.thefts.items) m.rest);
   left = omega (arith, m.gives.left, ap (λ (u : Seat). sum_by left_into u.thefts.items) m.rest);
 } where
+  own-own : (number : Option ℕ) (s t : Seat) → IsStanding s → TakesOwn number s t → IfSome number (λ n. Contains (numbers_of (count_of s) s.workers s.worker) n ⊎ (t.over ≡ true))
+  own-own None s t h m = tt
+  own-own (Some n) s t h m = inl (own_of (count_of s) s.workers s.worker n (subst (λ (l : List Entry). Contains l (Work n)) h.own m.gives.known))
+
   below-own : (number : Option ℕ) (s t : Seat) → IsStanding s → TakesOwn number s t → IfSome number (λ n. n < count_of s)
   below-own None s t h m = tt
   below-own (Some n) s t h m = below_of (count_of s) s.workers s.worker n (subst (λ (l : List Entry). Contains l (Work n)) h.own m.gives.known)
@@ -103,12 +108,17 @@ takes-then number s t u a b rest = record {
   ended = ap (λ (x : Seat). x.ended) rest ∙ a.ended;
   over = over-theft number;
   below = below-theft number b.known;
+  own = own-theft number;
   got = λ weight none. omega (arith, a.got weight none, b.got weight none, ap (λ (x : Seat). sum_by weight (own_view x).got) rest);
   left = omega (arith, a.left, b.left, ap (λ (x : Seat). blocks_left (own_view x)) rest);
 } where
   over-theft : (r : Option ℕ) → IfNone r (u.over ≡ true)
   over-theft None = ap (λ (x : Seat). x.over) rest ∙ a.over
   over-theft (Some n) = tt
+
+  own-theft : (r : Option ℕ) → IfSome r (λ n. Contains (numbers_of (count_of s) s.workers s.worker) n ⊎ (u.over ≡ true))
+  own-theft None = tt
+  own-theft (Some n) = inr (ap (λ (x : Seat). x.over) rest ∙ a.over)
 
   below-theft : (r : Option ℕ) → IfSome r (λ n. Any (λ pushed. Contains pushed (Work n)) (map pushed_into t.thefts.items)) → IfSome r (λ n. n < count_of s)
   below-theft None known = tt
@@ -121,6 +131,13 @@ contains-dealt total size number lt =
     let f = block_at total size in
     let count = block_count total size in
     (number, omega (arith, length-map-range_with_len f 0 count), get_or-map-range_with_len f 0 count number number (f number) lt (omega arith))
+
+-- a worker's number names a block of its own
+pub contains-own : (total size workers worker number : ℕ) → Contains (numbers_of (block_count total size) workers worker) number → Contains (blocks_for total size workers worker) (block_at total size number)
+contains-own total size workers worker number (k, lt, is) =
+    let f = block_at total size in
+    let numbers = numbers_of (block_count total size) workers worker in
+    (k, omega (arith, length-map numbers f), get_or-map f numbers k number (f number) lt ∙ ap f is)
 
 -- the sum over the blocks that a seat noted, with one more
 noted_more : (weight : ℕ × ℕ → ℕ) (xs ys : List Block) (block : Block) → ys ≡ xs ++ block ∷ [] → sum_by weight (extents_of ys) ≡ sum_by weight (extents_of xs) + weight (extent_of block)

@@ -3,7 +3,7 @@ use Rattle.std.proofs.Common.{◌≡◌, ℕ, ◌+◌, ◌*◌, ◌-◌, ◌%◌
 use Rattle.std.specs.List.{sum_by, Any, range_with_len}
 use Rattle.std.proofs.lemmas.List.Sums.{sum_by-append, sum_by-cons}
 use Rattle.std.proofs.lemmas.List.Folds.{sum_by-replicate}
-use Rattle.std.proofs.lemmas.List.Elements.{All-append, All-map, All-filter, All-replicate, All-contains, All-from_get_or}
+use Rattle.std.proofs.lemmas.List.Elements.{All-append, All-map, All-filter, All-replicate, All-contains, All-contains_itself, All-from_get_or}
 use Rattle.std.proofs.lemmas.List.FromFn.{length-range_with_len, get_or-range_with_len}
 use Rattle.work_shares.specs.declared.entry.Entry.{Entry}
 use Rattle.work_shares.specs.declared.entry.Entry.TheVariants.{Work, End}
@@ -55,6 +55,24 @@ below_entries count workers worker =
 pub below_of : (count workers worker number : ℕ) → Contains (entries_of count workers worker) (Work number) → number < count
 unfolding IsBelow
 below_of count workers worker number c = All-contains (IsBelow count) (entries_of count workers worker) (Work number) (below_entries count workers worker) c
+
+-- an entry's number is the worker's
+pub IsOwn : ℕ → ℕ → ℕ → Entry → Type 0
+IsOwn count workers worker (Work number) = Contains (numbers_of count workers worker) number
+IsOwn count workers worker End = Unit {0}
+
+own_entries : (count workers worker : ℕ) → All (IsOwn count workers worker) (entries_of count workers worker)
+unfolding entries_of IsOwn
+own_entries count workers worker =
+    let numbers = numbers_of count workers worker in
+    All-append (IsOwn count workers worker) (map Work numbers) (replicate workers End)
+    (All-map (IsOwn count workers worker) Work numbers (All-contains_itself numbers))
+    (All-replicate (IsOwn count workers worker) workers End tt)
+
+-- the number of a block that a worker's deque was given is one of the worker's
+pub own_of : (count workers worker number : ℕ) → Contains (entries_of count workers worker) (Work number) → Contains (numbers_of count workers worker) number
+unfolding IsOwn
+own_of count workers worker number c = All-contains (IsOwn count workers worker) (entries_of count workers worker) (Work number) (own_entries count workers worker) c
 
 -- the number of a block that one of the other deques was given
 pub below_after : (count workers worker number : ℕ) → Any (λ pushed. Contains pushed (Work number)) (entries_after count workers worker) → number < count

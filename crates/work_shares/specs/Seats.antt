@@ -1,11 +1,11 @@
 -- What holds of a seat.
-use Rattle.std.specs.Prelude.{◌≡◌, ℕ, ◌+◌, ◌<◌, ◌≤◌, map, Option, IfSome, IfNone, true, false, sum_by, vec_len, vec_capacity}
+use Rattle.std.specs.Prelude.{◌≡◌, ℕ, ◌+◌, ◌<◌, ◌≤◌, ◌⊎◌, map, Option, IfSome, IfNone, Contains, true, false, sum_by, vec_len, vec_capacity}
 use Rattle.crossbeam_deque.specs.Handles.{worker_view, worker_deque, worker_flavor}
 use Rattle.work_shares.specs.declared.entry.View.{View}
 use Rattle.work_shares.specs.declared.entry.Entry.{Entry}
 use Rattle.work_shares.specs.declared.entry.Entry.TheVariants.{End}
 use Rattle.work_shares.specs.declared.seat.Seat.{Seat}
-use Rattle.work_shares.specs.Cuts.{block_count}
+use Rattle.work_shares.specs.Cuts.{block_count, numbers_of}
 use Rattle.work_shares.specs.Blocks.{extents_of}
 use Rattle.work_shares.specs.Entries.{ends, blocks_left, weight_of, entries_of}
 use Rattle.work_shares.specs.Rule.{GotApart}
@@ -85,5 +85,6 @@ pub record Takes (number : Option ℕ) (old new : Seat) : Type 0 where
   pub ended : new.ended ≡ old.ended
   pub over : IfNone number (new.over ≡ true)
   pub below : IfSome number (λ n. n < count_of old)
+  pub own : IfSome number (λ n. Contains (numbers_of (count_of old) old.workers old.worker) n ⊎ (new.over ≡ true))
   pub got : (weight : Entry → ℕ) → weight End ≡ 0 → seat_got weight new ≡ seat_got weight old + weighed weight number
   pub left : seat_left new + given number ≡ seat_left old

@@ -1,6 +1,6 @@
 //! What a worker takes and notes, apart from its load.
-ghost use Rattle.std.specs.Prelude.{◌≡◌, ◌<◌, ◌++◌, ◌∷◌, [], IfSome, IfNone, Contains, is_none, ◌||◌};
-ghost use Rattle.work_shares.specs.Cuts.{dealt};
+ghost use Rattle.std.specs.Prelude.{◌≡◌, ◌<◌, ◌++◌, ◌∷◌, [], IfSome, IfNone, Contains, is_none, ◌||◌, ◌⊎◌};
+ghost use Rattle.work_shares.specs.Cuts.{dealt, blocks_for};
 ghost use Rattle.work_shares.specs.Blocks.{extent_of};
 ghost use Rattle.work_shares.specs.Thefts.{Steals};
 
@@ -98,6 +98,7 @@ impl Seat {
         ensures none { IfNone result (self.new.noted.items ≡ self.old.noted.items) }
         ensures left { IfNone result (seat_left self.new ≡ seat_left self.old) }
         ensures own_end { IfNone result (HasOwnMark self.new) }
+        ensures own_first { IfSome result (λ block. Contains (blocks_for self.old.cut.total self.old.cut.size self.old.workers self.old.worker) (extent_of block) ⊎ HasOwnMark self.new) }
     {
         match self.take() {
             Some(number) => {

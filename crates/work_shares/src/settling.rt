@@ -2,6 +2,7 @@
 ghost use Rattle.std.specs.Prelude.{◌≡◌, ℕ, ◌<◌, All, Some, map, length, slice_get, flat_map, IfSome, vec_len, IsPermutation};
 ghost use Rattle.std.specs.List.{range_with_len};
 ghost use Rattle.work_shares.specs.Cuts.{dealt, positions_of, IsPartOf};
+ghost use Rattle.work_shares.specs.Blocks.{extents_of};
 ghost use Rattle.work_shares.specs.Shares.{AreDeal, AreEnded, HasOwnEnd, own_blocks, place_of, noted_by, load_of, blocks_of, all_blocks, loads_of};
 ghost use Rattle.work_shares.specs.Apart.{ArePartsOf};
 
@@ -41,8 +42,8 @@ fn parted<L>(mut shares: Vec<Share<L>>) -> Parts<L>
 
 /// Takes the shares of a deal apart: all of them, in order, at any time. Of the blocks that their workers were given until
 /// then each was dealt, and none was given twice; where a share has taken an end mark from its own deque, all blocks of that
-/// deque were given; once all shares have ended, the blocks given are the dealt ones, each once, and their positions are
-/// those below the total, each once.
+/// deque were given; once all shares have ended, the blocks given are the dealt ones, each once, and their positions, share
+/// by share, are those below the total, each once.
 pub fn settle<L>(shares: Vec<Share<L>>) -> Settled<L>
     requires { (total : ℕ) × ((block : ℕ) × AreDeal total block shares.items) }
     ensures blocks { blocks_of result ≡ map noted_by shares.items }
@@ -53,6 +54,8 @@ pub fn settle<L>(shares: Vec<Share<L>>) -> Settled<L>
         → IsPermutation (dealt total block) (all_blocks result) }
     ensures positions { (total block : ℕ) → AreDeal total block shares.items → AreEnded shares.items
         → IsPermutation (range_with_len 0 total) (flat_map positions_of (all_blocks result)) }
+    ensures shared { (total block : ℕ) → AreDeal total block shares.items → AreEnded shares.items
+        → IsPermutation (range_with_len 0 total) (flat_map (λ share. flat_map positions_of (extents_of (noted_by share))) shares.items) }
 {
     let Parts {
         mut owners,

@@ -1,5 +1,5 @@
 //! One worker's end of a deal.
-ghost use Rattle.std.specs.Prelude.{◌≡◌, ◌<◌, ◌++◌, ◌∷◌, [], ◌||◌, IfSome, IfNone, Contains, is_none};
+ghost use Rattle.std.specs.Prelude.{◌≡◌, ◌<◌, ◌++◌, ◌∷◌, [], ◌||◌, ◌⊎◌, IfSome, IfNone, Contains, is_none};
 ghost use Rattle.work_shares.specs.Cuts.{dealt, IsPartOf};
 ghost use Rattle.work_shares.specs.Blocks.{extent_of, extents_of};
 ghost use Rattle.work_shares.specs.Seats.{IsSeated};
@@ -23,10 +23,10 @@ pub struct Share<L> {
 }
 
 impl<L> Share<L> {
-    ghost use Rattle.work_shares.specs.Shares.{place_of, noted_by, is_ended, share_left, HasOwnEnd};
+    ghost use Rattle.work_shares.specs.Shares.{place_of, noted_by, is_ended, share_left, HasOwnEnd, own_blocks};
 
-    /// A block that no other `next` of this deal gives. `None` only once this share's own deque has no more blocks; others may
-    /// still lie in other deques.
+    /// A block that no other `next` of this deal gives: one of its own, as long as its own deque has any. `None` only once this
+    /// share's own deque has no more blocks; others may still lie in other deques.
     ///
     /// It never waits: at most two rounds of tries to steal.
     pub fn next(&mut self) -> Option<Block>
@@ -40,6 +40,7 @@ impl<L> Share<L> {
         ensures none { IfNone result (noted_by self.new ≡ noted_by self.old) }
         ensures left { IfNone result (share_left self.new ≡ share_left self.old) }
         ensures own_end { IfNone result (HasOwnEnd self.new) }
+        ensures own_first { IfSome result (λ block. Contains (own_blocks self.old) (extent_of block) ⊎ HasOwnEnd self.new) }
     {
         self.seat.next()
     }

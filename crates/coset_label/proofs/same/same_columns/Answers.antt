@@ -5,10 +5,10 @@ use Rattle.coset_label.proofs.SameLabels.{columns_by_cells, small_row, cell_of_r
 use Rattle.coset_label.proofs.same.same_columns.Goals as goal
 
 pub same_row-requires-clause-x_small : goal.same_row-requires-clause-x_small
-same_row-requires-clause-x_small c = small_row _ _ c.row.ensures.room c.row.ensures.small
+same_row-requires-clause-x_small c = small_row _ c.row.ensures.small
 
 pub same_row-requires-clause-y_small : goal.same_row-requires-clause-y_small
-same_row-requires-clause-y_small c = small_row _ _ c.row-in-loop-row.ensures.room c.row-in-loop-row.ensures.small
+same_row-requires-clause-y_small c = small_row _ c.row-in-loop-row.ensures.small
 
 pub returns-then-not-same_row : goal.returns-then-not-same_row
 returns-then-not-same_row c = (

@@ -8,7 +8,6 @@ use Rattle.coset_label.proofs.scratch.channel_of_word.Goals as goal
 pub loop-left-preserved : goal.loop-left-preserved
 loop-left-preserved c = record {
   qubits = c.left_rotation.ensures.qubits ∙ c.loop-left.invariant.qubits;
-  grown = omega arith;
   exponent = omega arith;
   built =
       subst (λ (n : ℕ). IsBuiltOf n (word_steps (drop (c.loop-left.left - 1) c.args.word.letters)) (scaled c.left_rotation.new.self)) c.loop-left.invariant.qubits

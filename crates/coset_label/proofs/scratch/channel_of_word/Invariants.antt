@@ -7,7 +7,6 @@ use Rattle.coset_label.proofs.scratch.channel_of_word.Given as goal
 abbrev pub invariant-loop-left : goal.invariant-loop-left
 invariant-loop-left l = record {
   qubits : l.channel.qubits ≡ l.fn.channel.qubits;
-  grown : l.channel.grown + l.left ≡ length l.word.letters;
   exponent : l.channel.exponent + l.left ≡ length l.word.letters;
   built : IsBuiltOf l.fn.channel.qubits (word_steps (drop l.left l.word.letters)) (scaled l.channel);
 }

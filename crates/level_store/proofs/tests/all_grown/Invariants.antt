@@ -1,10 +1,9 @@
 use Rattle.std.proofs.Common.{◌≡◌, ◌+◌, ◌-◌, length}
-use Rattle.level_store.specs.Stored.{qubits_of_all, levels_of, AreLevels}
+use Rattle.level_store.specs.Stored.{qubits_of_all, levels_of}
 use Rattle.level_store.proofs.tests.all_grown.Given as goal
 
 abbrev pub invariant-loop-alloc : goal.invariant-loop-alloc
 invariant-loop-alloc g l = record {
-  levels : AreLevels l.levels;
   qubits : qubits_of_all l.levels ≡ l.n;
 }
 

@@ -38,7 +38,6 @@ loop-total-preserved g c =
     let odd = c.halves-half.result.1 in
     let l = half_of half odd in
     record {
-      levels = c.reach.ensures.levels;
       qubits = c.reach.ensures.qubits ∙ c.loop-total.invariant.qubits;
       none = subst (λ (t : ℕ). NoneBelow n m (t + 1)) c.halves-half.ensures (subst (λ o. IfNone o (NoneBelow n m (total_of half odd + 1))) c.in_default.is c.in_ok-word.ensures.none);
       near = omega (arith, l.0, l.1, c.halves-half.ensures, c.in_ok-reach.ensures.there);

@@ -14,4 +14,4 @@ returns-then-exponent-half-clause-finds c =
 pub returns-clause-finds : goal.returns-clause-finds
 returns-clause-finds c =
     let m = c.args.channel.now in
-    finds_named c.args.level.now m.qubits c.args.half c.requires.stored c.label_into.new.s.label c.find.result c.find.ensures.finds (scaled m) c.requires.circuit c.label_into.ensures.label
+    finds_named c.args.level.now m.qubits c.args.half c.requires.number c.label_into.new.s.label c.find.result c.find.ensures.finds (scaled m) c.requires.circuit c.label_into.ensures.label

@@ -5,6 +5,7 @@ use Rattle.pauli_basis.specs.Pauli.{PauliString}
 use Rattle.coset_label.specs.Words.{RotationWord}
 use Rattle.level_laws.specs.Levels.{StandsIn, removed}
 use Rattle.level_store.specs.Stored.{Finds, letters_in, words_of}
+use Rattle.level_store.proofs.Merely.{stored_at}
 use Rattle.meet_middle.specs.Fronts.{front_of}
 use Rattle.meet_middle.specs.Halves.{middle_letters}
 use Rattle.meet_middle.proofs.Halving.{number_below, front_spelled}
@@ -18,7 +19,7 @@ unreachable-requires g c =
     let half = c.args.half in
     let words = letters_in c.args.level.now in
     let target = scaled c.args.target.now in
-    let stored = c.requires.asked.stored in
+    let stored = stored_at n half c.args.level.now c.requires.asked.number in
     let rest = removed n target (front_of n words c.args.odd c.args.position) in
     let never : StandsIn n half rest → ⊥ = subst (λ (o : Option RotationWord). Finds n half rest o) c.in_default.is c.look.ensures.finds in
     never ((meets_decided n stored.some stored.few half words stored.level target c.args.odd c.args.position).0 c.requires.hit)
@@ -34,7 +35,7 @@ invariant_of-result g c =
     let rest = removed n (scaled c.args.target.now) (front_of n (letters_in c.args.level.now) c.args.odd c.args.position) in
     let found = subst (λ (o : Option RotationWord). Finds n half rest o) c.in-Some.is c.look.ensures.finds in
     let below = subst (λ (k : ℕ). k < length (words_of c.args.level.now)) (sym c.front-number.ensures.number) (number_below n c.args.level.now c.args.odd c.args.position c.requires.below) in
-    let first = word_qubits n (words_of c.args.level.now) c.front-number.result.0 c.word.result below c.word.ensures.word c.requires.asked.stored.words in
+    let first = word_qubits n (words_of c.args.level.now) c.front-number.result.0 c.word.result below c.word.ensures.word (stored_at n c.args.half c.args.level.now c.requires.asked.number).words in
     let middle = λ (p : PauliString) (is : c.front-number.result.1 ≡ Some p). subst (λ (o : Option PauliString). IfSome o (λ q. (q.qubits ≡ n) × (q.code < 4 ^ n) × (q.code ≢ 0))) is c.front-number.ensures.middle in
     record {
       qubits = first ∙ sym found.0;
@@ -46,7 +47,7 @@ pub returns-clause-qubits : goal.returns-clause-qubits
 returns-clause-qubits g c =
     let n = g.row.N in
     let below = subst (λ (k : ℕ). k < length (words_of c.args.level.now)) (sym c.front-number.ensures.number) (number_below n c.args.level.now c.args.odd c.args.position c.requires.below) in
-    word_qubits n (words_of c.args.level.now) c.front-number.result.0 c.word.result below c.word.ensures.word c.requires.asked.stored.words
+    word_qubits n (words_of c.args.level.now) c.front-number.result.0 c.word.result below c.word.ensures.word (stored_at n c.args.half c.args.level.now c.requires.asked.number).words
 
 pub returns-clause-meets : goal.returns-clause-meets
 returns-clause-meets g c =

@@ -1,7 +1,8 @@
-use Rattle.std.proofs.Common.{◌+◌, ◌<◌, ◌≤◌, cond, get_or, List, ap, sym, subst, ◌∙◌, arith}
+use Rattle.std.proofs.Common.{ℕ, ◌+◌, ◌<◌, ◌≤◌, cond, get_or, take, List, ap, sym, subst, ◌∙◌, arith}
 use Rattle.tc_circuit.specs.Gate.{is_t}
-use Rattle.tc_circuit.specs.Model.{matrix_of, IsCircuit}
-use Rattle.channel_rep.specs.Cells.{scaled}
+use Rattle.tc_circuit.specs.Model.{matrix_of, IsCircuit, t_count_of}
+use Rattle.tc_circuit.specs.declared.circuit.Gate.{Gate}
+use Rattle.channel_rep.specs.Cells.{scaled, most_exponent}
 use Rattle.channel_rep.specs.Tables.{Step, built}
 use Rattle.tc_bridge.specs.Steps.{steps_of}
 use Rattle.tc_bridge.specs.Progress.{HasTaken}
@@ -9,8 +10,16 @@ use Rattle.tc_bridge.proofs.Channels.{same_table_channel}
 use Rattle.tc_bridge.proofs.CircuitChannels.{circuit_channel, steps_fit}
 use Rattle.tc_bridge.proofs.Clauses.{word_then_clifford}
 use Rattle.tc_circuit.specs.declared.circuit.Gate.TheVariants.{H}
-use Rattle.tc_bridge.proofs.Prefixes.{count_more, steps_more, built_all}
+use Rattle.tc_bridge.proofs.Prefixes.{count_more, count_low, steps_more, built_all}
 use Rattle.tc_bridge.proofs.channel.channel_of.Goals as goal
+
+pub take-requires-clause-room : goal.take-requires-clause-room
+take-requires-clause-room c =
+    let gates = c.gates-gates.result.now in
+    let i = c.loop-gate.gate-index in
+    let few : t_count_of gates ≤ most_exponent = subst (λ (g : List Gate). t_count_of g ≤ most_exponent) (sym c.gates-gates.ensures.value) c.requires in
+    let low : t_count_of (take i gates) + cond (is_t (get_or gates i (H 0))) 1 0 ≤ most_exponent = omega (arith, few, count_low gates i c.loop-gate-test.true (H 0)) in
+    subst (λ (k : ℕ). k + cond (is_t (get_or gates i (H 0))) 1 0 ≤ most_exponent) (sym c.loop-gate.invariant.exponent) low
 
 pub loop-gate-preserved : goal.loop-gate-preserved
 loop-gate-preserved c =
@@ -18,7 +27,7 @@ loop-gate-preserved c =
     let gates = c.gates-gates.result.now in
     record {
       qubits = c.take.ensures.qubits ∙ inv.qubits;
-      grown = c.take.ensures.grown ∙ ap (λ k. k + cond (is_t (get_or gates c.loop-gate.gate-index (H 0))) 1 0) inv.grown ∙ sym (count_more gates c.loop-gate.gate-index c.loop-gate-test.true (H 0));
+      exponent = c.take.ensures.exponent ∙ ap (λ k. k + cond (is_t (get_or gates c.loop-gate.gate-index (H 0))) 1 0) inv.exponent ∙ sym (count_more gates c.loop-gate.gate-index c.loop-gate-test.true (H 0));
       taken = subst (λ (steps : List Step). HasTaken steps c.take.new.self) (sym (steps_more gates c.loop-gate.gate-index c.loop-gate-test.true (H 0))) (c.take.ensures.taken _ inv.taken);
     }
 

@@ -8,6 +8,6 @@ use Rattle.tc_bridge.proofs.channel.channel_of.Given as goal
 abbrev pub invariant-loop-gate : goal.invariant-loop-gate
 invariant-loop-gate l = record {
   qubits : l.progress.channel.qubits ≡ l.c.qubits;
-  grown : l.progress.channel.grown ≡ t_count_of (take l.gate-index l.gates);
+  exponent : l.progress.channel.exponent ≡ t_count_of (take l.gate-index l.gates);
   taken : HasTaken (steps_of (take l.gate-index l.gates)) l.progress;
 }

@@ -4,8 +4,8 @@ use Rattle.tcount_top.proofs.laws.printed_once.Goals as goal
 pub returns : goal.returns
 returns c = printed_once record {
   ring = c.surd_laws_hold.ensures.surds;
-  tables = c.channels_compare.ensures.equal;
-  built = c.channels_compare.ensures.built;
+  tables = c.tables_compare.ensures;
+  built = c.circuits_have_one_channel.ensures.built;
   classes = c.tables_are_classes.ensures;
   have = c.circuits_have_one_channel.ensures.exists;
   one = c.one_channel_where_same.ensures;

@@ -20,5 +20,5 @@ returns c =
       qubits = c.reduce.ensures.qubits ∙ qubits;
       grid = c.qubits-grid.ensures.valid;
       reduced = c.reduce.ensures.reduced;
-      table = (c.channels_compare.ensures.equal m.qubits).transitive (scaled left) (scaled off) (removed m.qubits (scaled m) letters) value table;
+      table = (c.tables_compare.ensures m.qubits).transitive (scaled left) (scaled off) (removed m.qubits (scaled m) letters) value table;
     }

@@ -12,8 +12,17 @@ use Rattle.meet_middle.specs.Halves.{spelled}
 use Rattle.tcount_top.specs.Printed.{IsLeft, codes_of, word_texts}
 use Rattle.tcount_top.proofs.Words.{most_nine}
 use Rattle.tcount_top.proofs.Letters.{texts_are}
-use Rattle.tcount_top.proofs.Printing.{left_permutes, left_channel, IsMade, made_shows, both_ok}
+use Rattle.tcount_top.proofs.Printing.{exponent_low, left_permutes, left_channel, IsMade, made_shows, both_ok}
 use Rattle.tcount_top.proofs.print.printed.Goals as goal
+
+pub left_without-requires-clause-room : goal.left_without-requires-clause-room
+left_without-requires-clause-room c =
+    let m : ChannelGrid = c.args.target.now in
+    let w = spelled c.args.word.now.first.letters c.args.word.now.middle c.args.word.now.last.letters in
+    let codes : codes_of c.deref.result.now ≡ w = ap codes_of c.deref.ensures.value ∙ c.in_ok-letters.ensures.codes in
+    let long : length c.deref.result.now ≡ length w = sym (length-map c.deref.result.now (λ (p : PauliString). p.code)) ∙ ap (λ (l : List ℕ). length l) codes in
+    let low : m.exponent ≤ length w = exponent_low c.exponents_bound_lengths.ensures.none c.exponents_bound_lengths.ensures.reduced m c.requires.reduced w c.requires.least in
+    omega (arith, c.requires.short, most_nine m.qubits)
 
 pub rest-requires-clause-permutation : goal.rest-requires-clause-permutation
 rest-requires-clause-permutation c =
@@ -79,4 +88,4 @@ returns c =
           (subst (λ (k : ℕ). IsWord n k (letter_texts c.deref-4.result.now)) long_letters (subst (λ (k : ℕ). IsWord k (length c.deref-4.result.now) (letter_texts c.deref-4.result.now)) qubits is_word));
       shows = shows ∙ is;
     } in
-    made_shows c.channels_compare.ensures.equal c.words_stand_behind_rests.ensures.least c.printed_texts_read_back.ensures.word c' small (scaled m) built w bytes.items (subst (λ (k : ℕ). IsMade k (scaled m) w bytes.items) (sym same) made))
+    made_shows c.tables_compare.ensures c.words_stand_behind_rests.ensures.least c.printed_texts_read_back.ensures.word c' small (scaled m) built w bytes.items (subst (λ (k : ℕ). IsMade k (scaled m) w bytes.items) (sym same) made))

@@ -22,7 +22,7 @@ loop-letter-preserved c =
     subst (λ (k : ℕ). Agree surds (4 ^ k) (table_of new) (product surds (4 ^ k) (rotation_table k true p.code) (table_of old))) c.loop-letter.invariant.qubits c.left_rotation_inverse.ensures.table in
     record {
       qubits = c.left_rotation_inverse.ensures.qubits ∙ c.loop-letter.invariant.qubits;
-      grown = omega (arith, c.left_rotation_inverse.ensures.grown, c.loop-letter.invariant.grown);
+      exponent = omega (arith, c.left_rotation_inverse.ensures.exponent, c.loop-letter.invariant.exponent);
       table = subst (λ (l : List ℕ). SameTable n (scaled new) (removed n m l)) (sym (take_letter letters i p.code (code_at c.args.letters.now i p c.loop-letter-test.true c.letter-item.is)))
           (c.letters_come_off.ensures.step n m (scaled old) (scaled new) (take i letters) p.code c.loop-letter.invariant.table c.left_rotation_inverse.ensures.exponent agrees);
     }

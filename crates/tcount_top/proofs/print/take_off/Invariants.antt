@@ -8,6 +8,6 @@ use Rattle.tcount_top.proofs.print.take_off.Given as goal
 abbrev pub invariant-loop-letter : goal.invariant-loop-letter
 invariant-loop-letter l = record {
   qubits : l.channel.qubits ≡ l.fn.channel.qubits;
-  grown : l.channel.grown ≡ l.fn.channel.grown + l.letter-index;
+  exponent : l.channel.exponent ≡ l.fn.channel.exponent + l.letter-index;
   table : SameTable l.fn.channel.qubits (scaled l.channel) (removed l.fn.channel.qubits (scaled l.fn.channel) (take l.letter-index (codes_of l.letters)));
 }

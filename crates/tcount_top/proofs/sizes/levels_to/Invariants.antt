@@ -1,10 +1,9 @@
 use Rattle.std.proofs.Common.{◌≡◌, ◌+◌, ◌-◌, ◌≤◌, length}
-use Rattle.level_store.specs.Stored.{AreLevels, levels_of, qubits_of_all}
+use Rattle.level_store.specs.Stored.{levels_of, qubits_of_all}
 use Rattle.tcount_top.proofs.sizes.levels_to.Given as goal
 
 abbrev pub invariant-loop-alloc : goal.invariant-loop-alloc
 invariant-loop-alloc g l = record {
-  levels : AreLevels l.levels;
   qubits : qubits_of_all l.levels ≡ l.qubits;
   low : length (levels_of l.levels) ≤ l.top + 1;
 }

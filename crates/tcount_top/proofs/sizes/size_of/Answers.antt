@@ -1,5 +1,8 @@
-use Rattle.level_store.specs.Stored.{qubits_of_all}
+use Rattle.std.proofs.Common.{◌∙◌, length}
+use Rattle.level_laws.specs.Levels.{level}
 use Rattle.tcount_top.proofs.sizes.size_of.Goals as goal
 
 pub returns : goal.returns
-returns c = c.count.ensures.stored (qubits_of_all c.args.levels.now) c.args.k c.level-level.ensures.stored
+returns c =
+    let is = c.level-level.ensures.number in
+    c.count.ensures.level ∙ (λ i. length (level (is.qubits i) (is.len i)))

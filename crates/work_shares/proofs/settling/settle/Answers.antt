@@ -1,10 +1,11 @@
 use Rattle.std.proofs.Common.{rules, ◌≡◌, ℕ, List, [], ◌∷◌, Vec, Global, Some, IfSome, All, IsPermutation, map, flat_map, get_or, length, vec_len, slice_get, refl, sym, ap, ◌∙◌, subst}
+use Rattle.std.specs.List.{range_with_len}
 use Rattle.std.proofs.lemmas.List.{get_or-map}
 use Rattle.std.proofs.lemmas.Option.{slice_get-get_or}
 use Rattle.work_shares.specs.declared.block.Block.{Block}
 use Rattle.work_shares.specs.declared.theft.Theft.{Theft}
 use Rattle.work_shares.specs.declared.share.Share.{Share}
-use Rattle.work_shares.specs.Cuts.{dealt, IsPartOf}
+use Rattle.work_shares.specs.Cuts.{dealt, positions_of, IsPartOf}
 use Rattle.work_shares.specs.Blocks.{extents_of}
 use Rattle.work_shares.specs.Owners.{Owner, deque_of, LeadAllOn, IsLive, HasMark, KeepMarks, TookBack}
 use Rattle.work_shares.specs.Ways.{ways_from}
@@ -15,7 +16,7 @@ use Rattle.work_shares.specs.Apart.{own_of, thefts_of, notes_of}
 use Rattle.work_shares.proofs.AllBack.{lengths_of, all_got}
 use Rattle.work_shares.proofs.Ties.{place_at, own_blocks_at, all_lead, all_live, all_marked, owners_whole}
 use Rattle.work_shares.proofs.Settles.{Settling, apart_dealt, once_dealt, own_noted}
-use Rattle.work_shares.proofs.Positions.{positions_once}
+use Rattle.work_shares.proofs.Positions.{positions_once, positions_by_share}
 use Rattle.work_shares.proofs.Kept.{AreDeal-size}
 use Rattle.work_shares.proofs.settling.settle.Goals as goal
 
@@ -103,3 +104,9 @@ returns-clause-once g c total block deal ended =
 pub returns-clause-positions : goal.returns-clause-positions
 returns-clause-positions g c total block deal ended =
     positions_once total block (flat_map extents_of (map (λ (own : Vec Block Global). own.items) c.parted-owners.result.notes.items)) (AreDeal-size total block c.args.shares.items deal) (returns-clause-once g c total block deal ended)
+
+pub returns-clause-shared : goal.returns-clause-shared
+returns-clause-shared g c total block deal ended =
+    let shares = c.args.shares.items in
+    let same = ap (λ (l : List (List Block)). flat_map positions_of (flat_map extents_of l)) (blocks_are shares c.parted-owners.result.notes.items c.parted-owners.ensures.notes) ∙ positions_by_share noted_by shares in
+    subst (IsPermutation (range_with_len 0 total)) same (returns-clause-positions g c total block deal ended)

@@ -8,7 +8,7 @@ pub unit_of_column-row-requires-clause-one : goal.unit_of_column-row-requires-cl
 unit_of_column-row-requires-clause-one c =
     let qubits : c.args.p.qubits ≡ c.self.inside.n = c.requires.same ∙ sym (ap (λ (g : ChannelGrid). g.qubits) c.self.view_is) in
     let below : c.code.result < c.codes.result = subst (λ size. c.code.result < size) (ap (λ (n : ℕ). 4 ^ n) qubits ∙ sym c.codes.ensures) c.code.ensures.below in
-    column_at c.self.inside.n c.self.inside.k c.self.inside.grown c.codes.result c.code.result c.self.inside.cells.items c.deref.result.now c.args.self.now c.self.view_is c.codes.ensures c.deref.ensures.value below c.requires.permutation
+    column_at c.self.inside.n c.self.inside.k c.codes.result c.code.result c.self.inside.cells.items c.deref.result.now c.args.self.now c.self.view_is c.codes.ensures c.deref.ensures.value below c.requires.permutation
 
 pub overflow_cast-row : goal.overflow_cast-row
 overflow_cast-row c = omega (arith, codes_few c.self.inside.n c.self.invariant.few, c.codes.ensures, c.unit_of_column-row.ensures.row)

@@ -9,7 +9,7 @@ pub offer-requires-clause-len : goal.offer-requires-clause-len
 offer-requires-clause-len c =
     let s = c.args.self.now.levels.now in
     let own = c.requires.own in
-    ap (λ (w : RotationWord). length w.letters) c.push_front-candidate.ensures ∙ ap length c.parts_at-letter.ensures.is ∙ turn_long s own.1.levels c.args.position own.0 ∙ sym own.1.len
+    ap (λ (w : RotationWord). length w.letters) c.push_front-candidate.ensures ∙ ap length c.parts_at-letter.ensures.is ∙ turn_long s c.args.position own.0 ∙ sym own.1.len
 
 pub returns-then-is_new-clause-stands : goal.returns-then-is_new-clause-stands
 returns-then-is_new-clause-stands c = λ done stood.
@@ -24,6 +24,6 @@ returns-then-is_new-clause-stands c = λ done stood.
       record {
         of = c.offer.ensures.seat;
         offered = λ test tells. c.offer.ensures.offers ∙ (λ k. stood.1.offered test tells k ++ (put k).letters ∷ [])
-            ∙ sym (offers_new s own.1.levels c.args.position own.0 parts.result.0.qubits letters c.label_with.new.label.label parts.ensures.letter parts.ensures.is label c.is_new.result c.is_new.ensures.new test tells c.if-is_new.true done);
+            ∙ sym (offers_new s c.args.position own.0 parts.result.0.qubits letters c.label_with.new.label.label parts.ensures.letter parts.ensures.is label c.is_new.result c.is_new.ensures.new test tells c.if-is_new.true done);
       },
     )

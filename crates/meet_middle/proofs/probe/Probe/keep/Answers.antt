@@ -6,7 +6,7 @@ use Rattle.level_store.specs.Stored.{letters_in, words_of}
 use Rattle.meet_middle.specs.Kept.{keeps}
 use Rattle.meet_middle.proofs.Keeping.{kept_decided}
 use Rattle.meet_middle.proofs.Numbers.{same_number, word_qubits, word_letters}
-use Rattle.meet_middle.proofs.Removing.{short_letters}
+use Rattle.meet_middle.proofs.Removing.{nine_at_most, short_letters}
 use Rattle.meet_middle.proofs.Resting.{word_off}
 use Rattle.meet_middle.proofs.probe.Probe.keep.Goals as goal
 
@@ -24,6 +24,10 @@ remove-requires-clause-same g c =
     let word = word_qubits g.row.N (words_of c.args.level.now) c.args.number c.word-word.result c.requires.below c.word-word.ensures.word c.requires.words in
     word ∙ sym (ap (λ (m : ChannelGrid). m.qubits) c.copy_from.ensures ∙ c.requires.target)
 
+pub remove-requires-clause-room : goal.remove-requires-clause-room
+remove-requires-clause-room g c =
+    omega (arith, c.requires.low, nine_at_most g.row.N, short_letters c.word-word.result c.len-long.ensures.valid, ap (λ (m : ChannelGrid). m.exponent) c.copy_from.ensures)
+
 pub returns-clause-kept : goal.returns-clause-kept
 returns-clause-kept g c =
     let n = g.row.N in
@@ -36,5 +40,4 @@ returns-clause-kept g c =
       qubits = c.reduce.ensures.qubits ∙ (c.remove.ensures.qubits ∙ (ap (λ (m : ChannelGrid). m.qubits) c.copy_from.ensures ∙ c.requires.target));
       table = subst (λ (w : List ℕ). SameTable n (scaled rest) (removed n (scaled target) w)) letters off;
       reduced = c.reduce.ensures.reduced;
-      room = omega (arith, c.requires.grown, c.reduce.ensures.grown, c.remove.ensures.grown, ap (λ (m : ChannelGrid). m.grown) c.copy_from.ensures, short_letters word c.len-long.ensures.valid);
     }

@@ -3,6 +3,7 @@ use Rattle.channel_rep.specs.Cells.{scaled}
 use Rattle.channel_rep.specs.Tables.{IsCircuitChannel}
 use Rattle.level_laws.specs.Levels.{removed}
 use Rattle.level_store.specs.Stored.{Finds, letters_in, words_of}
+use Rattle.level_store.proofs.Merely.{stored_at}
 use Rattle.std.proofs.lemmas.List.{length-map}
 use Rattle.coset_label.specs.Words.{RotationWord}
 use Rattle.meet_middle.specs.Fronts.{number_of}
@@ -17,12 +18,12 @@ pub keep-requires : goal.keep-requires
 keep-requires g c =
     let below : c.front-number.result.0 < length (words_of c.args.level.now) =
     subst (λ (k : ℕ). k < length (words_of c.args.level.now)) (sym c.front-number.ensures.number) (number_below g.row.N c.args.level.now c.args.odd c.args.position c.requires.below) in
-    (search rules, (c.requires.fit, (c.requires.asked.qubits, (c.requires.asked.grown, (c.requires.asked.stored.words, (below, c.requires.keeps))))))
+    (search rules, (c.requires.fit, (c.requires.asked.qubits, (c.requires.asked.low, ((stored_at g.row.N c.args.half c.args.level.now c.requires.asked.number).words, (below, c.requires.keeps))))))
 
 pub meet-requires : goal.meet-requires
 meet-requires g c =
     let n = g.row.N in
-    let stored = c.requires.asked.stored in
+    let stored = stored_at n c.args.half c.args.level.now c.requires.asked.number in
     let words = letters_in c.args.level.now in
     let number = c.front-number.result.0 in
     let kept = c.keep.ensures.kept in
@@ -31,7 +32,7 @@ meet-requires g c =
     let there : number < length words = subst (λ (k : ℕ). number < k) (sym (length-map (words_of c.args.level.now) (λ (w : RotationWord). w.letters))) below in
     let circuit : IsCircuitChannel n (scaled c.keep.new.self.kept) =
     rest_circuit n stored.some stored.few (scaled c.keep.new.self.kept) (scaled c.args.target.now) (slice_index_or words number []) (level_word_is n stored.some stored.few c.args.half words stored.level number there) kept.table c.requires.asked.circuit in
-    (search rules, (c.keep.ensures.fit, (stored, (kept.reduced, (kept.room, (circuit, c.front-number.ensures.middle))))))
+    (search rules, (c.keep.ensures.fit, (c.requires.asked.number, (kept.reduced, (circuit, c.front-number.ensures.middle)))))
 
 pub returns-clause-keeps : goal.returns-clause-keeps
 returns-clause-keeps g c =

@@ -7,8 +7,10 @@ use Rattle.coset_label.specs.Labels.{HasLeastExponent}
 use Rattle.level_laws.proofs.Exponents.{reduced_least}
 use Rattle.level_laws.specs.Levels.{StandsIn, removed}
 use Rattle.level_store.specs.Stored.{Finds}
+use Rattle.level_store.proofs.Merely.{stored_at}
 use Rattle.pauli_basis.specs.Pauli.{PauliString}
 use Rattle.meet_middle.specs.Halves.{middle_letters}
+use Rattle.meet_middle.proofs.Removing.{nine_at_most}
 use Rattle.meet_middle.proofs.Resting.{finds_of_same, rest_circuit, letter_off, past_letter}
 use Rattle.meet_middle.proofs.probe.Probe.meet.Goals as goal
 
@@ -22,7 +24,12 @@ returns-then-exponent-half-clause-finds g c =
     let least : HasLeastExponent n (scaled kept) = subst (λ (k : ℕ). HasLeastExponent k (scaled kept)) q (reduced_least kept c.requires.reduced) in
     let good = subst (λ (o : Option PauliString). IfSome o (λ p. (p.qubits ≡ n) × (p.code < 4 ^ n) × (p.code ≢ 0))) c.in-Some.is c.requires.middle in
     let there = subst (λ (o : Option PauliString). StandsIn n c.args.half (removed n target (word ++ middle_letters o))) c.in-Some.is found in
-    past_letter n c.requires.stored.some c.requires.stored.few (scaled kept) least c.args.half c.in-Some.letter.code (good.1, good.2) l target word same there
+    let stored = stored_at n c.args.half c.args.level.now c.requires.number in
+    past_letter n stored.some stored.few (scaled kept) least c.args.half c.in-Some.letter.code (good.1, good.2) l target word same there
+
+pub left_rotation_inverse-requires-clause-room : goal.left_rotation_inverse-requires-clause-room
+left_rotation_inverse-requires-clause-room g c =
+    omega (arith, c.if-exponent-half.false, c.exponent.ensures.value, c.requires.stored.short, nine_at_most g.row.N, ap (λ (m : ChannelGrid). m.exponent) c.copy_from.ensures)
 
 pub find_rest-requires-clause-circuit : goal.find_rest-requires-clause-circuit
 find_rest-requires-clause-circuit g c =
@@ -33,7 +40,8 @@ find_rest-requires-clause-circuit g c =
     let at : rest.qubits ≡ n = c.reduce.ensures.qubits ∙ (c.left_rotation_inverse.ensures.qubits ∙ (ap (λ (m : ChannelGrid). m.qubits) c.copy_from.ensures ∙ q)) in
     let good = subst (λ (o : Option PauliString). IfSome o (λ p. (p.qubits ≡ n) × (p.code < 4 ^ n) × (p.code ≢ 0))) c.in-Some.is c.requires.middle in
     let off = letter_off n kept c.copy_from.new.self c.left_rotation_inverse.new.self rest c.in-Some.letter.code q c.copy_from.ensures c.left_rotation_inverse.ensures.qubits c.left_rotation_inverse.ensures.exponent c.left_rotation_inverse.ensures.table c.reduce.ensures.value (scaled kept) [] (same_table_refl n (scaled kept)) in
-    subst (λ (k : ℕ). IsCircuitChannel k (scaled rest)) (sym at) (rest_circuit n c.requires.stored.some c.requires.stored.few (scaled rest) (scaled kept) (c.in-Some.letter.code ∷ []) ((good.1, good.2), tt) off c.requires.circuit)
+    let stored = stored_at n c.args.half c.args.level.now c.requires.number in
+    subst (λ (k : ℕ). IsCircuitChannel k (scaled rest)) (sym at) (rest_circuit n stored.some stored.few (scaled rest) (scaled kept) (c.in-Some.letter.code ∷ []) ((good.1, good.2), tt) off c.requires.circuit)
 
 pub find_rest-requires-in-None-clause-circuit : goal.find_rest-requires-in-None-clause-circuit
 find_rest-requires-in-None-clause-circuit g c =
