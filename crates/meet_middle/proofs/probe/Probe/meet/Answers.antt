@@ -29,7 +29,8 @@ returns-then-exponent-half-clause-finds g c =
 
 pub left_rotation_inverse-requires-clause-room : goal.left_rotation_inverse-requires-clause-room
 left_rotation_inverse-requires-clause-room g c =
-    omega (arith, c.if-exponent-half.false, c.exponent.ensures.value, c.requires.stored.short, nine_at_most g.row.N, ap (λ (m : ChannelGrid). m.exponent) c.copy_from.ensures)
+    let stored = stored_at g.row.N c.args.half c.args.level.now c.requires.number in
+    omega (arith, c.if-exponent-half.false, c.exponent.ensures.value, stored.short, nine_at_most g.row.N, ap (λ (m : ChannelGrid). m.exponent) c.copy_from.ensures)
 
 pub find_rest-requires-clause-circuit : goal.find_rest-requires-clause-circuit
 find_rest-requires-clause-circuit g c =
