@@ -34,7 +34,7 @@ grid_identity n cells some few whole agree = record {
 pub grid_norm : (m : ChannelGrid) → IsChannelGrid m → HasNorm (4 ^ m.qubits) m.exponent (table_of m)
 grid_norm m valid = norm_of_orthogonal (4 ^ m.qubits) m.exponent (table_of m) valid.orthogonal
 
--- so its cells are within 2^60, and more, also where they were lent
+-- so its cells are within 2^60, and each power of 2 above, also where they were lent
 pub grid_within : (n k j : ℕ) (cells lent : List Root2) → most_exponent ≤ j + j → lent ≡ cells → IsChannelGrid (grid n k cells) → EntriesWithin (2 ^ j) (4 ^ n) lent
 grid_within n k j cells lent most e valid r c l m =
     let low = valid.low in

@@ -142,7 +142,6 @@ inverse_rotation n inverse p lp d r c l =
         row_entry n inverse p (product_code p r) c d ∙ cond-false (commute n p (product_code p r)) _ _ (commute-back n p r ∙ e)
         ∙ (λ i. surd_plus (identity surds (product_code p r) c) (signed (turned_over inverse (not (anti_sign-back n p r e i))) (identity surds (product_code-back p r i) c)))
 
-
 module _ (n : ℕ) (some : 0 < n) (few : n ≤ 3) where
   -- the columns of a gate's table
   gate_columns : (g : ChannelGate) → Fits n g → HasOrthogonalColumns (4 ^ n) 0 (gate_table n g)

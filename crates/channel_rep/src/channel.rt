@@ -109,11 +109,7 @@ impl Channel {
         ensures built { IfOk result (λ m. IsBuiltOf n [] (scaled m)) }
     {
         let cells = identity_cells(alloc, n)?;
-        Ok(Channel {
-            n,
-            k: 0,
-            cells,
-        })
+        Ok(Channel { n, k: 0, cells })
     }
 
     /// Makes the channel into the identity, in place.
