@@ -1,6 +1,6 @@
 ghost use Rattle.std.specs.Prelude.{◌≡◌, ◌≢◌, IfOk};
 
-use crate::{Channel, ChannelGate, Conjugation};
+use crate::{Channel, ChannelGate, Conjugation, laws};
 use pauli_basis::Pauli;
 use std::process::Abort;
 use std::test::Fail;
@@ -161,4 +161,11 @@ fn a_run_moves_rows_as_its_gates_do(rt: HostRuntime) -> Result<(), Fail> {
         }
     }
     Ok(())
+}
+
+#[test]
+fn laws_are_called() {
+    laws::tables_compare();
+    laws::tables_multiply();
+    laws::rotations_undo();
 }

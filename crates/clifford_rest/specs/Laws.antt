@@ -11,7 +11,7 @@ use Rattle.channel_rep.specs.Tables.{built_on, IsBuiltOf, IsCircuitChannel}
 use Rattle.tc_bridge.specs.Block.{as_gates}
 use Rattle.tc_bridge.specs.Channel.{IsChannel}
 use Rattle.tc_bridge.specs.Steps.{steps_of}
-use Rattle.clifford_rest.specs.Rest.{undo_gates}
+use Rattle.clifford_rest.specs.Rest.{undo_gates, rest_of}
 
 -- a signed permutation that is a circuit's channel, on one to three qubits
 pub record IsCliffordChannel (c : ChannelGrid) : Type 0 where
@@ -38,9 +38,9 @@ pub record IsCliffordCircuit (c : ChannelGrid) (gates : List Gate) : Type 0 wher
   pub built : IsBuiltOf c.qubits (steps_of gates) (scaled c)
   pub channel : IsChannel c.qubits (matrix_of c.qubits gates).table (scaled c)
 
--- a signed permutation that is a circuit's channel is that of a circuit without T gates
+-- a signed permutation that is a circuit's channel is that of its rest, a circuit without T gates
 abbrev pub PermutationsHaveCircuits : Type 0
-PermutationsHaveCircuits = (c : ChannelGrid) → IsCliffordChannel c → (gates : List Gate) × IsCliffordCircuit c gates
+PermutationsHaveCircuits = (c : ChannelGrid) → IsCliffordChannel c → IsCliffordCircuit c (rest_of c)
 
 -- and the channel of each circuit without T gates is one, once it has the least exponent
 abbrev pub CircuitsHavePermutations : Type 0

@@ -8,7 +8,7 @@ pub fn sweeps_end_at_identity()
     ensures { SweepsEndAtIdentity }
 {}
 
-/// A signed permutation that is a circuit's channel is the channel of a circuit without T gates.
+/// A signed permutation that is a circuit's channel is the channel of its rest, which is a circuit without T gates.
 pub fn permutations_have_circuits()
     ensures { PermutationsHaveCircuits }
 {}

@@ -6,10 +6,12 @@
 
 mod compare;
 mod fault;
+mod laws;
 mod matrices;
 
 pub use compare::same;
 pub use fault::CheckFault;
+pub use laws::sameness_is_decided;
 
 #[cfg(test)]
 mod tests;

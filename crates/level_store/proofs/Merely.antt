@@ -65,7 +65,7 @@ module _ (shape : Shape) (words : List ℕ) where
       (Decides-like _ (λ h. (h.0, h.1, h.2.0, h.2.1)) (λ h. (h.0, h.1, (h.2, h.3)))
       (Decides-below_or test (λ d. (at d ≡ k) × ((e : ℕ) → e < d → get_or words (at e) 0 ≢ 0)) (at_some test)
       (λ d. Decides-and (at d == k) (at_all (λ e. full (at e)) d) (Decides-eqb (at d) k)
-          (Decides-below_and (λ e. full (at e)) (λ e. get_or words (at e) 0 ≢ 0) (at_all (λ e. full (at e))) (λ e. full_decided (at e)) refl (λ _. refl) d)) refl (λ _. refl) shape.capacity))
+      (Decides-below_and (λ e. full (at e)) (λ e. get_or words (at e) 0 ≢ 0) (at_all (λ e. full (at e))) (λ e. full_decided (at e)) refl (λ _. refl) d)) refl (λ _. refl) shape.capacity))
 
   -- a bucket word
   bucket_word : (number : ℕ) → ∥ IsBucketWord shape number ∥₁ → IsBucketWord shape number

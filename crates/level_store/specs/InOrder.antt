@@ -11,7 +11,7 @@ qubits_of l = l.n
 abbrev pub len_of : Level → ℕ
 len_of l = l.len
 
--- it is level k on n qubits
+-- its numbers are those of level k on n qubits, which by its type it then is
 pub record IsLevelOf (n k : ℕ) (l : Level) : Type 0 where
   pub qubits : qubits_of l ≡ n
   pub len : len_of l ≡ k

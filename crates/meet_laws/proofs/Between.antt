@@ -1,6 +1,6 @@
 -- Two circuits' channels lie in one coset exactly where a Clifford operator stands between them, and a Clifford operator
 -- before a word moves behind a word as long.
-use Rattle.std.proofs.Common.{◌≡◌, ℕ, ◌+◌, ◌^◌, ◌<◌, ◌≤◌, List, [], ◌∷◌, ◌++◌, length, refl, sym, ◌∙◌, subst, arith}
+use Rattle.std.proofs.Common.{◌≡◌, ℕ, ◌^◌, ◌<◌, ◌≤◌, List, [], ◌∷◌, ◌++◌, length, refl, sym, ◌∙◌, subst, arith}
 use Rattle.std.specs.List.{AllByRecursion}
 use Rattle.ring_laws.specs.Matrix.{product, identity}
 use Rattle.ring_laws.proofs.Sums.{identity-product}

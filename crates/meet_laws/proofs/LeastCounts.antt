@@ -20,7 +20,7 @@ use Rattle.tc_bridge.proofs.Conjugations.{all-append}
 use Rattle.tc_bridge.proofs.Counts.{t_count-append, word_count, word_circuit}
 use Rattle.tc_bridge.proofs.OneChannel.{same_channel, same_up_to}
 use Rattle.tc_bridge.proofs.Unitary.{unitary_circuit}
-use Rattle.meet_laws.specs.Laws.{IsLeastCircuit}
+use Rattle.meet_laws.specs.Laws.{IsGridOf, IsLeastCircuit}
 use Rattle.level_laws.specs.Levels.{IsInCoset, IsLeastWord, NoneBelow, removed}
 use Rattle.level_laws.proofs.Inverses.{put_back}
 use Rattle.level_laws.proofs.Circuits.{circuit_word, circuits_joined, word_built}
@@ -126,6 +126,10 @@ module _ (n : ℕ) (some : 0 < n) (few : n ≤ 3) (c : List Gate) (hc : IsCircui
     count = omega (arith, t_count-append d (word_gates n w), none, word_count n w);
     least = count_of_word w h;
   }
+
+-- what is left of a circuit's channel without a word of its coset has a grid
+pub rest_grid : (n : ℕ) → 0 < n → n ≤ 3 → (m : ScaledTable) → IsCircuitChannel n m → (w : List ℕ) → IsInCoset n m w → (e : ChannelGrid) × IsGridOf n (removed n m w) e
+rest_grid n some few m circuit w h = let d = clifford_behind n some few m w h.word circuit h.coset in (d.grid, d.is_grid)
 
 -- what is left of a circuit's channel without a word of its coset, with the least exponent, is a signed permutation
 pub rest_permutation : (e : ChannelGrid) → 0 < e.qubits → e.qubits ≤ 3 → (m : ScaledTable) → IsCircuitChannel e.qubits m → (w : List ℕ) → IsInCoset e.qubits m w

@@ -2,7 +2,7 @@
 use Rattle.std.specs.Prelude.{◌≡◌, ◌↔◌, ℕ, ◌+◌, ◌-◌, ◌*◌, ◌^◌, ◌<◌, ◌≤◌, List, [], ◌++◌, length, slice_index_or}
 use Rattle.tc_circuit.specs.Model.{IsCircuit, Same, t_count_of, IsLeastTCount}
 use Rattle.tc_circuit.specs.declared.circuit.Gate.{Gate}
-use Rattle.channel_rep.specs.Cells.{ChannelGrid, scaled, IsReduced, IsSignedPermutation}
+use Rattle.channel_rep.specs.Cells.{ChannelGrid, scaled, IsChannelGrid, IsReduced, IsSignedPermutation}
 use Rattle.channel_rep.specs.Products.{identity_table, table_product}
 use Rattle.channel_rep.specs.Tables.{SurdTable, ScaledTable, SameTable, built, IsBuiltOf, IsCircuitChannel}
 use Rattle.channel_rep.specs.Words.{IsWord}
@@ -68,6 +68,17 @@ abbrev pub RestsArePermutations : Type 0
 RestsArePermutations = (e : ChannelGrid) → 0 < e.qubits → e.qubits ≤ 3 → (m : ScaledTable) → IsCircuitChannel e.qubits m → (w : List ℕ) → IsInCoset e.qubits m w
     → SameTable e.qubits (scaled e) (removed e.qubits m w) → IsReduced e → IsSignedPermutation e
 
+-- a grid of a table on n qubits, with the least exponent
+pub record IsGridOf (n : ℕ) (m : ScaledTable) (e : ChannelGrid) : Type 0 where
+  pub qubits : e.qubits ≡ n
+  pub grid : IsChannelGrid e
+  pub reduced : IsReduced e
+  pub table : SameTable n (scaled e) m
+
+-- what is left of a circuit's channel without a word of its coset has such a grid
+abbrev pub RestsHaveGrids : Type 0
+RestsHaveGrids = (n : ℕ) → 0 < n → n ≤ 3 → (m : ScaledTable) → IsCircuitChannel n m → (w : List ℕ) → IsInCoset n m w → (e : ChannelGrid) × IsGridOf n (removed n m w) e
+
 -- d is a circuit that is the same as c, with t T gates, and no circuit that is the same has fewer
 pub record IsLeastCircuit (n : ℕ) (c d : List Gate) (t : ℕ) : Type 0 where
   pub circuit : IsCircuit n d
@@ -81,6 +92,10 @@ LeastWordsMakeCircuits = (n : ℕ) → 0 < n → n ≤ 3 → (c : List Gate) →
     → (d : List Gate) → IsCircuit n d → t_count_of d ≡ 0 → SameTable n (built n (steps_of d)) (removed n m w) → IsLeastCircuit n c (d ++ word_gates n w) (length w)
 
 -- ---- halves that meet
+-- a front that meets spells, with the word that it meets, a word of the coset
+abbrev pub MeetingsSpellWords : Type 0
+MeetingsSpellWords = (n : ℕ) → 0 < n → n ≤ 3 → (m : ScaledTable) (h : ℕ) (a b : List ℕ) → IsWord n a → Meets n m h a b → IsInCoset n m (a ++ b)
+
 -- a total t whose fronts stand in order, with h letters behind each: where none of them meets, no word of at most t letters
 -- is in the coset; the first that meets spells the least word with what it meets
 pub record TellsTotal (n : ℕ) (m : ScaledTable) (t h count : ℕ) (front : ℕ → List ℕ) : Type 0 where

@@ -1,7 +1,7 @@
 //! The facts on which the search in the middle rests.
 //!
 //! Each of these functions does nothing. Its contract is the law, for a caller's proof to use.
-ghost use Rattle.meet_laws.specs.Laws.{CliffordsLieWithIdentity, CosetsDifferByCliffords, PermutationsMoveBehindWords, PartsAreLeast, LeastCountsExist, LeastCountsAreLengths, CountsPassBounds, WordsStandBehindRests, RestsArePermutations, LeastWordsMakeCircuits, EvenTotals, OddTotals};
+ghost use Rattle.meet_laws.specs.Laws.{CliffordsLieWithIdentity, CosetsDifferByCliffords, PermutationsMoveBehindWords, PartsAreLeast, LeastCountsExist, LeastCountsAreLengths, CountsPassBounds, WordsStandBehindRests, RestsArePermutations, RestsHaveGrids, LeastWordsMakeCircuits, MeetingsSpellWords, EvenTotals, OddTotals};
 
 /// The channels of circuits without T gates lie in the coset of the identity, and two circuits' channels lie in one coset
 /// exactly where they differ by such a circuit on the right.
@@ -32,11 +32,14 @@ pub fn least_counts_are_lengths()
 pub fn words_stand_behind_rests()
     ensures same { WordsStandBehindRests }
     ensures permutation { RestsArePermutations }
+    ensures grid { RestsHaveGrids }
     ensures least { LeastWordsMakeCircuits }
 {}
 
-/// The first front that meets spells the least word, and where none meets there is no word of so many letters.
+/// A front that meets spells a word of the coset, the first one that meets the least word, and where none meets there is no
+/// word of so many letters.
 pub fn halves_meet()
+    ensures spelled { MeetingsSpellWords }
     ensures even { EvenTotals }
     ensures odd { OddTotals }
 {}

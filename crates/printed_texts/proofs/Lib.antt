@@ -2,7 +2,6 @@ pub mod Lexed
 pub mod Comments
 pub mod Scanned
 pub mod Gates
-pub mod Added
 pub mod Lines
 pub mod Circuits
 pub mod Heads

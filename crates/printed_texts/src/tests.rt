@@ -5,7 +5,7 @@ ghost use Rattle.tc_circuit.specs.Gate.{Fits};
 use crate::printed_texts_read_back;
 use circuit_writer::text;
 use pauli_basis::Pauli;
-use qasm_reader::{ReadFault, read};
+use qasm_reader::{MOST_STATEMENTS, MOST_T_GATES, ReadFault, read};
 use std::alloc::{AllocError, Global};
 use std::test::Fail;
 use tc_circuit::Circuit;
@@ -128,13 +128,16 @@ fn prints_read_back(rt: HostRuntime) -> Result<(), Fail> {
     Ok(())
 }
 
+// The most gates of a print that is read, beside the include and the register.
+const MOST_GATES: usize = MOST_STATEMENTS - 2;
+
 // How many gates t and how many h, and the number for which the print is refused, none within the limits.
 const LIMITS: [(usize, usize, Option<u8>); 5] = [
-    (44, 4050, None),
-    (0, 4094, None),
-    (45, 0, Some(9)),
-    (44, 4051, Some(10)),
-    (0, 4095, Some(10)),
+    (MOST_T_GATES, MOST_GATES - MOST_T_GATES, None),
+    (0, MOST_GATES, None),
+    (MOST_T_GATES + 1, 0, Some(9)),
+    (MOST_T_GATES, MOST_GATES - MOST_T_GATES + 1, Some(10)),
+    (0, MOST_GATES + 1, Some(10)),
 ];
 
 #[test]

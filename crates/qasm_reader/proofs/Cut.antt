@@ -20,7 +20,7 @@ abbrev pub of : List ℕ → List Token → List Lexeme
 of text ts = map (lexeme_of text) ts
 
 -- one lexeme more of the statement that is begun
-step : (begun : List Lexeme) (w : Lexeme) (ws : List Lexeme) → cut_behind begun (w ∷ ws) ≡ cond (is_kind Semi w) ((begun ++ w ∷ []) ∷ cut_behind [] ws) (cut_behind (begun ++ w ∷ []) ws)
+pub step : (begun : List Lexeme) (w : Lexeme) (ws : List Lexeme) → cut_behind begun (w ∷ ws) ≡ cond (is_kind Semi w) ((begun ++ w ∷ []) ∷ cut_behind [] ws) (cut_behind (begun ++ w ∷ []) ws)
 unfolding cut_behind
 step [] w ws = refl
 step (v ∷ vs) w ws = refl

@@ -310,7 +310,7 @@ behind_is w ws f e =
     (tested _ _ _ _ e)
 
 -- no test of a list is passed
-abbrev NonePass : {A : Type 0} → (A → Bool) → List A → Type 0
+abbrev pub NonePass : {A : Type 0} → (A → Bool) → List A → Type 0
 NonePass p [] = Unit {0}
 NonePass p (x ∷ xs) = (p x ≡ false) × NonePass p xs
 
@@ -324,7 +324,7 @@ none_pass p (x ∷ xs) e = let o = or_parts (p x) (list_any p xs) e in (o.0, non
     or_parts false b f = (refl, f)
 
 -- a name is none of the reserved words
-free_is : (b : List ℕ) → is_free b ≡ true → NonePass (λ r. bytes_eq b r) reserved
+pub free_is : (b : List ℕ) → is_free b ≡ true → NonePass (λ r. bytes_eq b r) reserved
 unfolding is_reserved
 free_is b e = none_pass (λ r. bytes_eq b r) reserved (not-true _ e)
 
@@ -339,7 +339,7 @@ in_register w vs name size f g e =
     )
 
 -- the tokens of a form without their `;`
-abbrev front_of : Form → List Shape
+abbrev pub front_of : Form → List Shape
 front_of (Include text) = ident (codes "include") ∷ quoted text ∷ []
 front_of (Qreg name size) = ident (codes "qreg") ∷ ident name ∷ in_brackets size
 front_of (Creg name size) = ident (codes "creg") ∷ ident name ∷ in_brackets size
@@ -347,7 +347,7 @@ front_of (Barrier args) = ident (codes "barrier") ∷ arguments args
 front_of (Apply name args) = ident name ∷ arguments args
 
 -- a form is its front and a `;`
-whole_is : (f : Form) → spelled f ≡ front_of f ++ mark Semi ∷ []
+pub whole_is : (f : Form) → spelled f ≡ front_of f ++ mark Semi ∷ []
 whole_is (Include text) = refl
 whole_is (Qreg name size) = refl
 whole_is (Creg name size) = refl

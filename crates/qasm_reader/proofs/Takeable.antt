@@ -8,54 +8,16 @@ use Rattle.tc_circuit.specs.declared.circuit.Gate.{Gate}
 use Rattle.tc_circuit.specs.declared.circuit.Gate.TheVariants.{H, S, Sdg, T, Tdg, Cx}
 use Rattle.tc_circuit.specs.Gate.{Fits}
 use Rattle.tc_circuit.specs.Model.{IsCircuit}
-use Rattle.qasm_reader.specs.declared.refusal.Refusal.{Refusal}
+use Rattle.qasm_reader.specs.declared.refusal.Refusal.TheVariants.{Statement as NoStatement, NotInProfile, TwoNames, UnknownRegister, Index, SameQubit, Qubits, TooManyT, TooLong}
+use Rattle.qasm_reader.specs.Limits.{most_statements}
 use Rattle.qasm_reader.specs.Lexemes.{Lexeme}
 use Rattle.qasm_reader.specs.Forms.{Argument, Form, Include, Qreg, Creg, Barrier, Apply, HasForm}
 use Rattle.qasm_reader.specs.Known.{Known, look_up, table, known}
-use Rattle.qasm_reader.specs.State.{Register, State, value, find_register, qubits_in, qubits_at, qubits_of, placed, expanded, gates_at}
-use Rattle.qasm_reader.specs.Rows.{Statement, row_of, rows, first_of, takes_other, takes_bare, has_other_arity, has_bare, is_outside, is_no_statement, is_not_in_profile, is_taken, has_no_register, has_bad_index, names_twice, has_twins, has_too_many_qubits, has_too_many_t}
+use Rattle.qasm_reader.specs.State.{Register, State, value, find_register, qubits_in, qubits_at, qubits_of, placed, expanded, gates_at, gate_in}
+use Rattle.qasm_reader.specs.Rows.{Statement, row_of, takes_other, takes_bare, has_other_arity, has_bare, is_outside, is_no_statement, is_not_in_profile, is_taken, has_no_register, has_bad_index, names_twice, has_twins, has_too_many_qubits, has_too_many_t}
 use Rattle.qasm_reader.specs.Run.{IsTakeable}
 use Rattle.qasm_reader.proofs.Registers.{Inside}
-
--- where no row applies, none of the list does
-abbrev NoRow : List (Refusal × Bool) → Type 0
-NoRow [] = Unit {0}
-NoRow (r ∷ rs) = (r.1 ≡ false) × NoRow rs
-
--- a list without a first row
-no_row : (rs : List (Refusal × Bool)) → first_of rs ≡ None → NoRow rs
-no_row [] e = tt
-no_row ((n, true) ∷ rs) e = absurd (cc)
-no_row ((n, false) ∷ rs) e = (refl, no_row rs e)
-
--- the rows that don't apply to a statement that isn't refused
-pub record Unrefused (s : State) (p : Statement) : Type 0 where
-  pub statement : is_no_statement p ≡ false
-  pub profile : is_not_in_profile p ≡ false
-  pub taken : is_taken s p.form ≡ false
-  pub registers : has_no_register s p.form ≡ false
-  pub index : has_bad_index s p.form ≡ false
-  pub twins : names_twice s p.form ≡ false
-  pub qubits : has_too_many_qubits s p.form ≡ false
-  pub t : has_too_many_t s p.form ≡ false
-  pub short : s.count < 4096
-
--- a statement that isn't refused meets no row
-pub unrefused : (s : State) (p : Statement) → row_of s p ≡ None → Unrefused s p
-unfolding row_of rows
-unrefused s p e =
-    let n = no_row (rows s p) e in
-    record {
-      statement = n.0;
-      profile = n.1.0;
-      taken = n.1.1.0;
-      registers = n.1.1.1.1.0;
-      index = n.1.1.1.1.1.0;
-      twins = n.1.1.1.1.1.1.0;
-      qubits = n.1.1.1.1.1.1.1.0;
-      t = n.1.1.1.1.1.1.1.1.0;
-      short = leb-false _ _ n.1.1.1.1.1.1.1.1.1.0;
-    }
+use Rattle.qasm_reader.proofs.Order.{unmet}
 
 -- a test that decides whether a gate fits
 fits : ℕ → Gate → Bool
@@ -88,21 +50,25 @@ all_fit k (g ∷ gs) e = let p = and_parts (fits k g) _ e in (fits_is k g p.0, a
 is_sound : Known → Bool
 is_sound g = nat_lt 0 g.arity && list_all (fits g.arity) g.gates
 
--- what the table holds is sound
-look_up_is : (es : List (List ℕ × Known)) (name : List ℕ) (g : Known) → list_all (λ e. is_sound e.1) es ≡ true → look_up es name ≡ Some g → is_sound g ≡ true
-look_up_is [] name g e f = absurd (cc)
-look_up_is (x ∷ xs) name g e f =
-    let p = and_parts (is_sound x.1) _ e in
+-- what is found in a table passes the test that all in it pass
+pub look_up_is : (test : Known → Bool) (es : List (List ℕ × Known)) (name : List ℕ) (g : Known) → list_all (λ e. test e.1) es ≡ true → look_up es name ≡ Some g → test g ≡ true
+look_up_is test [] name g e f = absurd (cc)
+look_up_is test (x ∷ xs) name g e f =
+    let p = and_parts (test x.1) _ e in
     ⊎_elim
-    (λ (t : bytes_eq name x.0 ≡ true). let same : Some x.1 ≡ Some g = sym (ap (λ (b : Bool). cond b (Some x.1) (look_up xs name)) t) ∙ f in let one : x.1 ≡ g = cc in subst (λ (y : Known). is_sound y ≡ true) one p.0)
-    (λ (t : bytes_eq name x.0 ≡ false). look_up_is xs name g p.1 (sym (ap (λ (b : Bool). cond b (Some x.1) (look_up xs name)) t) ∙ f))
+    (λ (t : bytes_eq name x.0 ≡ true). let same : Some x.1 ≡ Some g = sym (ap (λ (b : Bool). cond b (Some x.1) (look_up xs name)) t) ∙ f in let one : x.1 ≡ g = cc in subst (λ (y : Known). test y ≡ true) one p.0)
+    (λ (t : bytes_eq name x.0 ≡ false). look_up_is test xs name g p.1 (sym (ap (λ (b : Bool). cond b (Some x.1) (look_up xs name)) t) ∙ f))
     (cases_Bool (bytes_eq name x.0))
 
--- a known gate takes an argument, and its gates fit its arguments
-known_is : (name : List ℕ) (g : Known) → known name ≡ Some g → (0 < g.arity) × IsCircuit g.arity g.gates
+-- each known gate takes an argument, and its gates fit its arguments
+abbrev pub AreSound : (List ℕ → Option Known) → Type 0
+AreSound gates = (name : List ℕ) (g : Known) → gates name ≡ Some g → (0 < g.arity) × IsCircuit g.arity g.gates
+
+-- those of the table do
+pub table_sound : AreSound known
 unfolding known is_sound fits
-known_is name g e =
-    let s = look_up_is table name g refl e in
+table_sound name g e =
+    let s = look_up_is is_sound table name g refl e in
     let p = and_parts (nat_lt 0 g.arity) _ s in
     (ltb-true _ _ p.0, all_fit g.arity g.gates p.1)
 
@@ -117,7 +83,7 @@ below_at n (q ∷ qs) zero b h = b.0
 below_at n (q ∷ qs) (suc i) b h = below_at n qs i b.1 (omega arith)
 
 -- where a disjunction fails both parts do
-or_false : (x y : Bool) → (x || y) ≡ false → (x ≡ false) × (y ≡ false)
+pub or_false : (x y : Bool) → (x || y) ≡ false → (x ≡ false) × (y ≡ false)
 or_false true y e = absurd (cc)
 or_false false y e = (refl, e)
 
@@ -170,7 +136,7 @@ range_below n zero first h = tt
 range_below n (suc size) first h = (omega arith, range_below n size (first + 1) (omega arith))
 
 -- a register that is found lies below n
-found_inside : (n : ℕ) (rs : List Register) (name : List ℕ) (r : Register) → Inside n rs → find_register rs name ≡ Some r → (0 < r.size) × (r.first + r.size ≤ n)
+pub found_inside : (n : ℕ) (rs : List Register) (name : List ℕ) (r : Register) → Inside n rs → find_register rs name ≡ Some r → (0 < r.size) × (r.first + r.size ≤ n)
 found_inside n [] name r i e = absurd (cc)
 found_inside n (x ∷ xs) name r i e =
     ⊎_elim
@@ -245,12 +211,12 @@ expanded_fits n rs args g i k other bare reg out twins = go (g.arity == 1) refl
         circuit_placed n qs g.gates (of_below n rs args i) twins (subst (λ (k : ℕ). IsCircuit k g.gates) size k.1)
 
 -- the gates of a gate that may be known fit
-gates_fit : (n : ℕ) (rs : List Register) (args : List Argument) (name : List ℕ) (o : Option Known) → known name ≡ o → Inside n rs
+gates_fit : (gates : List ℕ → Option Known) → AreSound gates → (n : ℕ) (rs : List Register) (args : List Argument) (name : List ℕ) (o : Option Known) → gates name ≡ o → Inside n rs
     → takes_other o (length args) ≡ false → takes_bare o args ≡ false
     → list_any (λ a. is_none (find_register rs a.name)) args ≡ false → list_any (λ a. is_outside (find_register rs a.name) a.index) args ≡ false
     → has_twins (flat_map (qubits_of rs) args) ≡ false → IsCircuit n (gates_at o (flat_map (qubits_of rs) args))
-gates_fit n rs args name None e i other bare reg out twins = tt
-gates_fit n rs args name (Some g) e i other bare reg out twins = expanded_fits n rs args g i (known_is name g e) other bare reg out twins
+gates_fit gates sound n rs args name None e i other bare reg out twins = tt
+gates_fit gates sound n rs args name (Some g) e i other bare reg out twins = expanded_fits n rs args g i (sound name g e) other bare reg out twins
 
 -- the first argument's register has a qubit
 some_qubit : (n : ℕ) (rs : List Register) (args : List Argument) → Inside n rs → 0 < length args → list_any (λ a. is_none (find_register rs a.name)) args ≡ false → 0 < n
@@ -262,31 +228,43 @@ some_qubit n rs (a ∷ args) i h e = go (find_register rs a.name) refl (or_false
     go (Some r) f g = let p = found_inside n rs a.name r i f in omega (arith, p.0, p.1)
 
 -- a statement takes no other number of arguments
-other_arity : (p : Statement) → is_no_statement p ≡ false → has_other_arity p.form ≡ false
+pub other_arity : (s : State) (p : Statement) → row_of s p ≡ None → has_other_arity (gate_in s.known p.form) p.form ≡ false
 unfolding is_no_statement
-other_arity p e = (or_false _ _ (or_false _ _ e).1).1
+other_arity s p row =
+    let e : is_no_statement (gate_in s.known p.form) p ≡ false = unmet s p NoStatement row refl in
+    (or_false _ _ (or_false _ _ e).1).1
 
 -- a statement in the profile has no bare argument
-no_bare_argument : (p : Statement) → is_not_in_profile p ≡ false → has_bare p.form ≡ false
+no_bare_argument : (s : State) (p : Statement) → row_of s p ≡ None → has_bare (gate_in s.known p.form) p.form ≡ false
 unfolding is_not_in_profile
-no_bare_argument p e = (or_false _ _ (or_false _ _ e).1).1
+no_bare_argument s p row =
+    let e : is_not_in_profile (gate_in s.known p.form) p ≡ false = unmet s p NotInProfile row refl in
+    (or_false _ _ (or_false _ _ e).1).1
+
+-- fewer statements than there may be stand before a statement to which no row applies
+pub short_before : (s : State) (p : Statement) → row_of s p ≡ None → s.count < most_statements
+short_before s p row = leb-false _ _ (unmet s p TooLong row refl)
 
 -- what the code relies on holds of a statement to which no row applies
-pub takeable : (s : State) (ws : List Lexeme) (o : Option Form) → HasForm ws o → Inside s.qubits s.registers → row_of s (record { lexemes = ws; form = o }) ≡ None → IsTakeable s o
-takeable s ws None h i row = tt
-takeable s ws (Some (Include text)) h i row = tt
-takeable s ws (Some (Qreg name size)) h i row =
-    let f = unrefused s (record { lexemes = ws; form = Some (Qreg name size) }) row in
-    let some = eqb-false (value size) 0 (or_false _ _ f.index).0 in
-    ((or_false _ _ f.taken).1, omega (arith, some), ltb-false _ _ f.qubits)
-takeable s ws (Some (Creg name size)) h i row = tt
-takeable s ws (Some (Barrier args)) h i row = tt
-takeable s ws (Some (Apply name args)) h i row =
+pub takeable : (s : State) (ws : List Lexeme) (o : Option Form) → HasForm ws o → Inside s.qubits s.registers → AreSound s.known → row_of s (record { lexemes = ws; form = o }) ≡ None → IsTakeable s o
+takeable s ws None h i sound row = tt
+takeable s ws (Some (Include text)) h i sound row = tt
+takeable s ws (Some (Qreg name size)) h i sound row =
+    let p : Statement = record { lexemes = ws; form = Some (Qreg name size) } in
+    let taken : is_taken s p.form ≡ false = unmet s p TwoNames row refl in
+    let index : has_bad_index s p.form ≡ false = unmet s p Index row refl in
+    let few : has_too_many_qubits s p.form ≡ false = unmet s p Qubits row refl in
+    let some = eqb-false (value size) 0 (or_false _ _ index).0 in
+    ((or_false _ _ taken).1, omega (arith, some), ltb-false _ _ few)
+takeable s ws (Some (Creg name size)) h i sound row = tt
+takeable s ws (Some (Barrier args)) h i sound row = tt
+takeable s ws (Some (Apply name args)) h i sound row =
     let p : Statement = record { lexemes = ws; form = Some (Apply name args) } in
-    let f = unrefused s p row in
-    let other = other_arity p f.statement in
-    let bare = no_bare_argument p f.profile in (
-      some_qubit s.qubits s.registers args i h.1.1.0 f.registers,
-      gates_fit s.qubits s.registers args name (known name) refl i other bare f.registers f.index f.twins,
-      ltb-false _ _ f.t,
+    let registers : has_no_register s p.form ≡ false = unmet s p UnknownRegister row refl in
+    let index : has_bad_index s p.form ≡ false = unmet s p Index row refl in
+    let twins : names_twice s p.form ≡ false = unmet s p SameQubit row refl in
+    let t : has_too_many_t s p.form ≡ false = unmet s p TooManyT row refl in (
+      some_qubit s.qubits s.registers args i h.1.1.0 registers,
+      gates_fit s.known sound s.qubits s.registers args name (s.known name) refl i (other_arity s p row) (no_bare_argument s p row) registers index twins,
+      ltb-false _ _ t,
     )

@@ -5,6 +5,7 @@ pub mod State
 pub mod Limits
 pub mod Refusals
 pub mod Rows
+pub mod Within
 pub mod Read
 pub mod Halves
 pub mod Parse

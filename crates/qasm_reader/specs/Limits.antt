@@ -12,3 +12,7 @@ most_t_gates = 44
 -- the most statements behind the header
 abbrev pub most_statements : ℕ
 most_statements = 4096
+
+-- the most gates that a statement stands for, as `y` on a register of three qubits does
+abbrev pub most_gates_each : ℕ
+most_gates_each = 18

@@ -13,18 +13,19 @@ pub record Register : Type 0 where
   pub first : ℕ
   pub size : ℕ
 
--- the registers of qubits, whether a register of qubits or of bits has a name, how many qubits there are, whether a gate was
--- applied, the gates in order, and how many statements there were
+-- the registers of qubits, whether a register of qubits or of bits has a name, the gate of a name if it is known, how many
+-- qubits there are, whether a gate was applied, the gates in order, and how many statements there were
 pub record State : Type 0 where
   pub registers : List Register
   pub named : List ℕ → Bool
+  pub known : List ℕ → Option Known
   pub qubits : ℕ
   pub began : Bool
   pub gates : List Gate
   pub count : ℕ
 
 abbrev pub start : State
-start = record { registers = []; named = λ name. false; qubits = 0; began = false; gates = []; count = 0 }
+start = record { registers = []; named = λ name. false; known = known; qubits = 0; began = false; gates = []; count = 0 }
 
 -- the number that digits write, of any size
 abbrev pub value : List ℕ → ℕ
@@ -69,10 +70,14 @@ abbrev pub gate_qubits : State → Option Form → List ℕ
 gate_qubits s (Some (Apply name args)) = flat_map (qubits_of s.registers) args
 gate_qubits s other = []
 
--- the gates that a statement stands for
+-- the gate that a form applies, if it is one of the known gates
+abbrev pub gate_in : (List ℕ → Option Known) → Option Form → Option Known
+gate_in known (Some (Apply name args)) = known name
+gate_in known other = None
+
+-- the gates that a form stands for
 abbrev pub gates_in : State → Option Form → List Gate
-gates_in s (Some (Apply name args)) = gates_at (known name) (flat_map (qubits_of s.registers) args)
-gates_in s other = []
+gates_in s f = gates_at (gate_in s.known f) (gate_qubits s f)
 
 -- the names, and one more
 abbrev pub with_name : List ℕ → (List ℕ → Bool) → List ℕ → Bool

@@ -1,5 +1,5 @@
 -- What the code's values say, apart from where they lie in memory.
-use Rattle.std.specs.Prelude.{ℕ, Bool, List, [], map, Option, Some, None, option_map, is_some}
+use Rattle.std.specs.Prelude.{◌≡◌, ℕ, Bool, List, [], map, Option, Some, None, option_map, is_some}
 use Rattle.std.specs.List.{list_any}
 use Rattle.std.specs.Str.{bytes_eq}
 use Rattle.std.specs.BTreeSet.{BTreeSet}
@@ -10,11 +10,13 @@ use Rattle.qasm_reader.specs.declared.forms.Argument.{Argument as CodeArgument}
 use Rattle.qasm_reader.specs.declared.forms.Form.{Form as CodeForm}
 use Rattle.qasm_reader.specs.declared.forms.Form.TheVariants.{Include as CodeInclude, Qreg as CodeQreg, Creg as CodeCreg, Barrier as CodeBarrier, Apply as CodeApply}
 use Rattle.qasm_reader.specs.declared.gates.Known.{Known as CodeKnown}
+use Rattle.qasm_reader.specs.declared.statements.Statement.{Statement as CodeStatement}
 use Rattle.qasm_reader.specs.declared.scan.Register.{Register as CodeRegister}
 use Rattle.qasm_reader.specs.declared.scan.Scan.{Scan as CodeScan}
-use Rattle.qasm_reader.specs.State.{Register, State}
+use Rattle.qasm_reader.specs.State.{Register, State, gate_in, gate_qubits}
+use Rattle.qasm_reader.specs.Rows.{Statement}
 use denote.Ref.{Bor}
-use Rattle.qasm_reader.specs.Known.{Known}
+use Rattle.qasm_reader.specs.Known.{Known, known}
 use Rattle.qasm_reader.specs.Lexemes.{Lexeme}
 use Rattle.qasm_reader.specs.Forms.{Argument, Form, Include, Qreg, Creg, Barrier, Apply}
 
@@ -60,8 +62,17 @@ abbrev pub state : CodeScan → State
 state s = record {
   registers = registers s.registers.items;
   named = names s.names;
+  known = known;
   qubits = s.qubits;
   began = is_some s.circuit;
   gates = gates_made s.circuit;
   count = s.count;
 }
+
+abbrev pub statement_of : CodeStatement → Statement
+statement_of p = record { lexemes = lexemes p.lexemes.now; form = option_map form p.form }
+
+-- the gate and the qubits of the statement are those that its form names behind this state
+pub record IsBehind (s : State) (p : CodeStatement) : Type 0 where
+  pub gate : option_map known_gate p.gate ≡ gate_in s.known (option_map form p.form)
+  pub qubits : p.qubits.items ≡ gate_qubits s (option_map form p.form)

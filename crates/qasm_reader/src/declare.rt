@@ -3,15 +3,16 @@ ghost use Rattle.std.specs.Prelude.{◌≡◌, ◌+◌, ◌<◌, ◌≤◌, true
 ghost use Rattle.std.specs.Option.{ForSome};
 ghost use Rattle.tc_circuit.specs.Model.{IsCircuit, t_count_of};
 ghost use Rattle.qasm_reader.specs.Limits.{most_qubits, most_t_gates, most_statements};
-ghost use Rattle.qasm_reader.specs.State.{value, start, with_name, gates_at, gate_qubits, declared, after};
+ghost use Rattle.qasm_reader.specs.State.{value, start, with_name, gates_at, declared, after};
 ghost use Rattle.qasm_reader.specs.Run.{IsTakeable};
-ghost use Rattle.qasm_reader.specs.View.{form, known_gate, gates_made, state};
+ghost use Rattle.qasm_reader.specs.View.{form, known_gate, gates_made, IsBehind, state};
 
 use crate::circuits::{push_gates, t_count_at};
 use crate::finding::{add_name, small_value};
 use crate::forms::Form;
-use crate::gates::{Known, known_by_name};
+use crate::gates::Known;
 use crate::scan::{Register, Scan};
+use crate::statements::Statement;
 use std::alloc::{AllocError, Global};
 use std::collections::BTreeSet;
 use tc_circuit::Circuit;
@@ -121,33 +122,31 @@ fn with_gates<'a>(
 fn with_form<'a>(
     alloc: Global,
     scan: Scan<'a>,
-    found: Option<Form<'a>>,
-    qubits: &[u8],
+    statement: &Statement<'_, 'a>,
 ) -> Result<Scan<'a>, AllocError>
-    requires fits { IsTakeable (state scan) (option_map form found) }
-    requires qubits { qubits.now ≡ gate_qubits (state scan) (option_map form found) }
-    ensures { IfOk result (λ s. state s ≡ declared (state scan.entry) (option_map form found.entry)) }
+    requires fits { IsTakeable (state scan) (option_map form statement.now.form) }
+    requires behind { IsBehind (state scan) statement.now }
+    ensures { IfOk result (λ s. state s ≡ declared (state scan.entry) (option_map form statement.now.form)) }
 {
-    match found {
-        Some(Form::Qreg(name, size)) => with_qreg(scan, name, size),
-        Some(Form::Creg(name, _)) => with_creg(scan, name),
-        Some(Form::Apply(name, _)) => with_gates(alloc, scan, known_by_name(name), qubits),
+    match &statement.form {
+        Some(Form::Qreg(name, size)) => with_qreg(scan, *name, *size),
+        Some(Form::Creg(name, _)) => with_creg(scan, *name),
+        Some(Form::Apply(_, _)) => with_gates(alloc, scan, statement.gate, &statement.qubits),
         _ => Ok(scan),
     }
 }
 
-// The scan behind a statement of this form, to which no row applies.
+// The scan behind a statement to which no row applies.
 pub(crate) fn with_statement<'a>(
     alloc: Global,
     scan: Scan<'a>,
-    found: Option<Form<'a>>,
-    qubits: &[u8],
+    statement: &Statement<'_, 'a>,
 ) -> Result<Scan<'a>, AllocError>
-    requires fits { IsTakeable (state scan) (option_map form found) }
-    requires qubits { qubits.now ≡ gate_qubits (state scan) (option_map form found) }
+    requires fits { IsTakeable (state scan) (option_map form statement.now.form) }
+    requires behind { IsBehind (state scan) statement.now }
     requires short { scan.count < most_statements }
-    ensures { IfOk result (λ s. state s ≡ after (state scan.entry) (option_map form found.entry)) }
+    ensures { IfOk result (λ s. state s ≡ after (state scan.entry) (option_map form statement.now.form)) }
 {
-    let next = with_form(alloc, scan, found, qubits)?;
+    let next = with_form(alloc, scan, statement)?;
     Ok(counted(next))
 }

@@ -1,19 +1,21 @@
 // Numbers, names and registers.
-ghost use Rattle.std.specs.Prelude.{◌≡◌, ℕ, List, min, OnOk, option_map};
+ghost use Rattle.std.specs.Prelude.{◌≡◌, ℕ, ◌+◌, List, min, OnOk, option_map};
+ghost use Rattle.qasm_reader.specs.Limits.{most_qubits};
 ghost use Rattle.qasm_reader.specs.State.{value, find_register, with_name};
 ghost use Rattle.qasm_reader.specs.View.{register, registers, names};
 
+use crate::limits::MOST_QUBITS;
 use crate::scan::Register;
 use std::alloc::AllocError;
 use std::collections::BTreeSet;
 
-// The number that digits write, or 4 where it is greater.
+// The number that digits write, or one more than the most qubits where it is greater than these.
 pub(crate) fn small_value(digits: &[u8]) -> u8
-    ensures { result ≡ min (value digits.now) 4 }
+    ensures { result ≡ min (value digits.now) (most_qubits + 1) }
 {
     let mut n = 0;
     for digit in digits {
-        n = (n * 10 + digit.saturating_sub(b'0')).min(4);
+        n = (n * 10 + digit.saturating_sub(b'0')).min(MOST_QUBITS + 1);
     }
     n
 }

@@ -1,11 +1,12 @@
 // What holds of the definitions.
-ghost use Rattle.std.specs.Prelude.{◌≡◌, ◌⊎◌, ℕ, ◌<◌, ◌≤◌, List};
+ghost use Rattle.std.specs.Prelude.{◌≡◌, ◌⊎◌, ℕ, ◌*◌, ◌<◌, ◌≤◌, List, length};
 ghost use Rattle.tc_circuit.specs.Circuit.{Gates};
 ghost use Rattle.tc_circuit.specs.Model.{IsCircuit, t_count_of};
-ghost use Rattle.qasm_reader.specs.Limits.{most_qubits, most_t_gates};
+ghost use Rattle.qasm_reader.specs.Limits.{most_qubits, most_t_gates, most_statements, most_gates_each};
 ghost use Rattle.qasm_lex.specs.Tokens.{Bad};
 ghost use Rattle.qasm_reader.specs.Halves.{HasHalves, HasNoHalves};
 ghost use Rattle.qasm_reader.specs.Read.{Reads, Refused};
+ghost use Rattle.qasm_reader.specs.Within.{IncludesAreTaken, RegistersAreTaken, GatesAreTaken};
 
 /// Every text reads as a circuit or is refused, never both, and as one circuit, or with one number at one place.
 ///
@@ -18,12 +19,30 @@ pub fn one_reading()
     ensures refusal { (text : List ℕ) (n p m q : ℕ) → Refused text n p → Refused text m q → (n ≡ m) × (p ≡ q) }
 {}
 
-/// A circuit that a text reads as is small: it is on 1 to 3 qubits, each of its gates fits them, and it has at most 44 T gates.
+/// A circuit that a text reads as is small: it is on 1 to 3 qubits, each of its gates fits them, it has at most 44 T gates, and
+/// at most 18 gates for each of at most 4,096 statements.
 pub fn read_circuits_are_small()
     ensures some { (text : List ℕ) (c : Gates) → Reads text c → 0 < c.qubits }
     ensures few { (text : List ℕ) (c : Gates) → Reads text c → c.qubits ≤ most_qubits }
     ensures fit { (text : List ℕ) (c : Gates) → Reads text c → IsCircuit c.qubits c.gates }
     ensures low { (text : List ℕ) (c : Gates) → Reads text c → t_count_of c.gates ≤ most_t_gates }
+    ensures short { (text : List ℕ) (c : Gates) → Reads text c → length c.gates ≤ most_gates_each * most_statements }
+{}
+
+/// A text is refused at a place of it, or at its end.
+pub fn refusals_stand_in_texts()
+    ensures { (text : List ℕ) (n p : ℕ) → Refused text n p → p ≤ length text }
+{}
+
+/// No row applies to an include of `qelib1.inc` behind few statements, nor to a register of qubits that is new and within the
+/// limits, nor to a known gate on as many arguments as it takes, each with an index in its register, which name different qubits,
+/// within the limits.
+///
+/// So a text can be shown to read as a circuit one statement after another, without a look at the rows.
+pub fn statements_within_limits_are_taken()
+    ensures include { IncludesAreTaken }
+    ensures register { RegistersAreTaken }
+    ensures gate { GatesAreTaken }
 {}
 
 /// Every text has two halves, has none, or has a bad byte; it has one alone of these, and its halves at one place.

@@ -17,14 +17,20 @@ mod forms;
 mod gates;
 mod laws;
 mod lexemes;
+mod limits;
 mod openings;
 mod reading;
 mod refusal;
 mod rows;
 mod scan;
+mod statements;
 
 pub use fault::ReadFault;
-pub use laws::{one_halving, one_reading, read_circuits_are_small};
+pub use laws::{
+    one_halving, one_reading, read_circuits_are_small, refusals_stand_in_texts,
+    statements_within_limits_are_taken,
+};
+pub use limits::{MOST_QUBITS, MOST_STATEMENTS, MOST_T_GATES};
 pub use openings::halves;
 pub use reading::read;
 

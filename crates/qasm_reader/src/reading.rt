@@ -9,29 +9,27 @@ ghost use Rattle.qasm_reader.specs.Run.{Takes, IsRowFault, Scans, IsScanFault};
 ghost use Rattle.qasm_reader.specs.View.{lexemes, state};
 
 use crate::declare::{new_scan, with_statement};
-use crate::expand::gate_qubits;
 use crate::fault::{ReadFault, refused};
-use crate::forms::form_of;
 use crate::lexemes::{Lexeme, is_ident, is_number, lexeme_of, lexemes_of};
 use crate::refusal::Refusal;
 use crate::rows::first_row;
 use crate::scan::Scan;
+use crate::statements::statement_behind;
 use qasm_lex::{Kind, Token, lex};
 use std::alloc::Global;
 use tc_circuit::Circuit;
 
 // The scan behind a statement to which no row applies.
-fn taken<'a>(alloc: Global, scan: Scan<'a>, statement: &[Lexeme<'a>]) -> Result<Scan<'a>, ReadFault>
-    requires { 0 < length statement.now }
-    ensures ok { IfOk result (Takes (state scan.entry) (lexemes statement.now)) }
-    ensures err { IfErr result (IsRowFault (state scan.entry) (lexemes statement.now)) }
+fn taken<'a>(alloc: Global, scan: Scan<'a>, ws: &[Lexeme<'a>]) -> Result<Scan<'a>, ReadFault>
+    requires { 0 < length ws.now }
+    ensures ok { IfOk result (Takes (state scan.entry) (lexemes ws.now)) }
+    ensures err { IfErr result (IsRowFault (state scan.entry) (lexemes ws.now)) }
 {
-    let found = form_of(alloc, statement)?;
-    let qubits = gate_qubits(alloc, &scan, &found)?;
-    if let Some(why) = first_row(&scan, statement, &found, &qubits) {
-        return Err(refused(why, statement[0].place));
+    let statement = statement_behind(alloc, &scan, ws)?;
+    if let Some(why) = first_row(&scan, &statement) {
+        return Err(refused(why, ws[0].place));
     }
-    let next = with_statement(alloc, scan, found, &qubits)?;
+    let next = with_statement(alloc, scan, &statement)?;
     Ok(next)
 }
 

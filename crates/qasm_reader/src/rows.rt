@@ -1,18 +1,20 @@
 // The rows by which a statement is refused.
 ghost use Rattle.std.specs.Prelude.{◌≡◌, Option, option_map, is_none};
 ghost use Rattle.std.specs.List.{list_any};
-ghost use Rattle.qasm_reader.specs.State.{find_register, gate_qubits};
-ghost use Rattle.qasm_reader.specs.Rows.{ends, is_foreign, is_call, takes_other, has_other_arity, is_no_statement, takes_bare, has_bare, includes_other, is_not_in_profile, is_taken, is_unknown, arguments_of, has_no_register, is_outside, is_empty_size, has_bad_index, has_too_many_qubits, has_too_many_t, row_of};
-ghost use Rattle.qasm_reader.specs.View.{lexemes, form, argument, arguments, register, registers, state, known_gate};
+ghost use Rattle.qasm_reader.specs.State.{find_register};
+ghost use Rattle.qasm_reader.specs.Rows.{ends, is_foreign, is_call, takes_other, has_other_arity, is_no_statement, takes_bare, has_bare, includes_other, is_not_in_profile, is_taken, is_unknown, arguments_of, has_no_register, is_outside, is_empty_size, has_bad_index, has_too_many_qubits, has_too_many_t, applies, row_of};
+ghost use Rattle.qasm_reader.specs.View.{lexemes, form, argument, arguments, register, registers, known_gate, statement_of, IsBehind, state};
 
 use crate::circuits::t_count_at;
 use crate::expand::has_twins;
 use crate::finding::{contains_name, find_register, small_value};
 use crate::forms::{Argument, Form};
-use crate::gates::{Known, known_by_name};
+use crate::gates::Known;
 use crate::lexemes::{Lexeme, is_ident, is_kind, is_name};
+use crate::limits::{MOST_QUBITS, MOST_STATEMENTS, MOST_T_GATES};
 use crate::refusal::Refusal;
-use crate::scan::{MOST_QUBITS, MOST_STATEMENTS, MOST_T_GATES, Register, Scan};
+use crate::scan::{Register, Scan};
+use crate::statements::Statement;
 use qasm_lex::Kind;
 
 // Whether the last token is `;`.
@@ -62,11 +64,11 @@ fn takes_other(known: Option<Known>, n: usize) -> bool
     }
 }
 
-fn has_other_arity(found: &Option<Form>) -> bool
-    ensures { result ≡ has_other_arity (option_map form found.now) }
+fn has_other_arity(gate: Option<Known>, found: &Option<Form>) -> bool
+    ensures { result ≡ has_other_arity (option_map known_gate gate.entry) (option_map form found.now) }
 {
     match found {
-        Some(Form::Apply(name, list)) => takes_other(known_by_name(name), list.len()),
+        Some(Form::Apply(_, list)) => takes_other(gate, list.len()),
         _ => false,
     }
 }
@@ -101,11 +103,11 @@ fn takes_bare(known: Option<Known>, list: &[Argument]) -> bool
     }
 }
 
-fn has_bare(found: &Option<Form>) -> bool
-    ensures { result ≡ has_bare (option_map form found.now) }
+fn has_bare(gate: Option<Known>, found: &Option<Form>) -> bool
+    ensures { result ≡ has_bare (option_map known_gate gate.entry) (option_map form found.now) }
 {
     match found {
-        Some(Form::Apply(name, list)) => takes_bare(known_by_name(name), list),
+        Some(Form::Apply(_, list)) => takes_bare(gate, list),
         _ => false,
     }
 }
@@ -204,11 +206,11 @@ fn is_taken<'a>(scan: &Scan<'a>, found: &Option<Form<'a>>) -> bool
     }
 }
 
-fn is_unknown(found: &Option<Form>) -> bool
-    ensures { result ≡ is_unknown (option_map form found.now) }
+fn is_unknown(gate: Option<Known>, found: &Option<Form>) -> bool
+    ensures { result ≡ is_unknown (option_map known_gate gate.entry) (option_map form found.now) }
 {
     match found {
-        Some(Form::Apply(name, _)) => known_by_name(name).is_none(),
+        Some(Form::Apply(_, _)) => gate.is_none(),
         _ => false,
     }
 }
@@ -222,68 +224,81 @@ fn has_too_many_qubits(scan: &Scan, found: &Option<Form>) -> bool
     }
 }
 
-fn has_too_many_t(scan: &Scan, found: &Option<Form>, qubits: &[u8]) -> bool
-    requires { qubits.now ≡ gate_qubits (state scan.now) (option_map form found.now) }
-    ensures { result ≡ has_too_many_t (state scan.now) (option_map form found.now) }
+fn has_too_many_t(scan: &Scan, statement: &Statement) -> bool
+    requires { IsBehind (state scan.now) statement.now }
+    ensures { result ≡ has_too_many_t (state scan.now) (option_map form statement.now.form) }
 {
-    match found {
-        Some(Form::Apply(name, _)) => {
-            t_count_at(known_by_name(name), qubits) > MOST_T_GATES - scan.t_count
+    match &statement.form {
+        Some(Form::Apply(_, _)) => {
+            t_count_at(statement.gate, &statement.qubits) > MOST_T_GATES - scan.t_count
         }
         _ => false,
     }
 }
 
 #[tactic(auto, unfolding(crate::specs::Rows::is_no_statement))]
-fn is_no_statement(statement: &[Lexeme], found: &Option<Form>) -> bool
-    ensures { result ≡ is_no_statement (record { lexemes = lexemes statement.now; form = option_map form found.now }) }
+fn is_no_statement(statement: &Statement) -> bool
+    ensures { result ≡ is_no_statement (option_map known_gate statement.now.gate) (statement_of statement.now) }
 {
-    !ends(statement)
-        || found.is_none() && !(is_foreign(statement) || is_call(statement))
-        || has_other_arity(found)
+    !ends(statement.lexemes)
+        || statement.form.is_none()
+            && !(is_foreign(statement.lexemes) || is_call(statement.lexemes))
+        || has_other_arity(statement.gate, &statement.form)
 }
 
 #[tactic(auto, unfolding(crate::specs::Rows::is_not_in_profile))]
-fn is_not_in_profile(statement: &[Lexeme], found: &Option<Form>) -> bool
-    ensures { result ≡ is_not_in_profile (record { lexemes = lexemes statement.now; form = option_map form found.now }) }
+fn is_not_in_profile(statement: &Statement) -> bool
+    ensures { result ≡ is_not_in_profile (option_map known_gate statement.now.gate) (statement_of statement.now) }
 {
-    ends(statement) && (is_foreign(statement) || is_call(statement))
-        || includes_other(found)
-        || has_bare(found)
+    ends(statement.lexemes) && (is_foreign(statement.lexemes) || is_call(statement.lexemes))
+        || includes_other(&statement.form)
+        || has_bare(statement.gate, &statement.form)
+}
+
+// The reasons in the order of their rows.
+const ORDER: [Refusal; 10] = [
+    Refusal::Statement,
+    Refusal::NotInProfile,
+    Refusal::TwoNames,
+    Refusal::UnknownGate,
+    Refusal::UnknownRegister,
+    Refusal::Index,
+    Refusal::SameQubit,
+    Refusal::Qubits,
+    Refusal::TooManyT,
+    Refusal::TooLong,
+];
+
+// Whether the row of a reason applies.
+fn applies<'a>(scan: &Scan<'a>, statement: &Statement<'_, 'a>, why: Refusal) -> bool
+    requires { IsBehind (state scan.now) statement.now }
+    ensures { result ≡ applies (state scan.now) (statement_of statement.now) why }
+{
+    match why {
+        Refusal::Header | Refusal::BadByte => false,
+        Refusal::Statement => is_no_statement(statement),
+        Refusal::NotInProfile => is_not_in_profile(statement),
+        Refusal::TwoNames => is_taken(scan, &statement.form),
+        Refusal::UnknownGate => is_unknown(statement.gate, &statement.form),
+        Refusal::UnknownRegister => has_no_register(scan, &statement.form),
+        Refusal::Index => has_bad_index(scan, &statement.form),
+        Refusal::SameQubit => has_twins(&statement.qubits),
+        Refusal::Qubits => has_too_many_qubits(scan, &statement.form),
+        Refusal::TooManyT => has_too_many_t(scan, statement),
+        Refusal::TooLong => scan.count >= MOST_STATEMENTS,
+    }
 }
 
 // The first row that applies, if one does.
-#[tactic(auto, unfolding(crate::specs::Rows::row_of, crate::specs::Rows::rows))]
-pub(crate) fn first_row<'a>(
-    scan: &Scan<'a>,
-    statement: &[Lexeme],
-    found: &Option<Form<'a>>,
-    qubits: &[u8],
-) -> Option<Refusal>
-    requires { qubits.now ≡ gate_qubits (state scan.now) (option_map form found.now) }
-    ensures { result ≡ row_of (state scan.now) (record { lexemes = lexemes statement.now; form = option_map form found.now }) }
+#[tactic(auto, unfolding(crate::specs::Rows::row_of))]
+pub(crate) fn first_row<'a>(scan: &Scan<'a>, statement: &Statement<'_, 'a>) -> Option<Refusal>
+    requires { IsBehind (state scan.now) statement.now }
+    ensures { result ≡ row_of (state scan.now) (statement_of statement.now) }
 {
-    if is_no_statement(statement, found) {
-        Some(Refusal::Statement)
-    } else if is_not_in_profile(statement, found) {
-        Some(Refusal::NotInProfile)
-    } else if is_taken(scan, found) {
-        Some(Refusal::TwoNames)
-    } else if is_unknown(found) {
-        Some(Refusal::UnknownGate)
-    } else if has_no_register(scan, found) {
-        Some(Refusal::UnknownRegister)
-    } else if has_bad_index(scan, found) {
-        Some(Refusal::Index)
-    } else if has_twins(qubits) {
-        Some(Refusal::SameQubit)
-    } else if has_too_many_qubits(scan, found) {
-        Some(Refusal::Qubits)
-    } else if has_too_many_t(scan, found, qubits) {
-        Some(Refusal::TooManyT)
-    } else if scan.count >= MOST_STATEMENTS {
-        Some(Refusal::TooLong)
-    } else {
-        None
+    for why in ORDER {
+        if applies(scan, statement, why) {
+            return Some(why);
+        }
     }
+    None
 }

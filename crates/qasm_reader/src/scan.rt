@@ -8,12 +8,6 @@ ghost use Rattle.qasm_reader.specs.Limits.{most_qubits, most_t_gates, most_state
 use std::collections::BTreeSet;
 use tc_circuit::Circuit;
 
-pub(crate) const MOST_QUBITS: u8 = 3;
-
-pub(crate) const MOST_T_GATES: usize = 44;
-
-pub(crate) const MOST_STATEMENTS: usize = 4096;
-
 // A register of qubits: its first qubit, and how many it has.
 #[derive(Clone, Copy)]
 pub(crate) struct Register<'a> {

@@ -1,5 +1,8 @@
 // Texts with what they read as, worked out by hand.
-use crate::{ReadFault, halves, one_halving, one_reading, read, read_circuits_are_small};
+use crate::{
+    MOST_STATEMENTS, MOST_T_GATES, ReadFault, halves, one_halving, one_reading, read,
+    read_circuits_are_small, statements_within_limits_are_taken,
+};
 use std::alloc::{AllocError, Global};
 use tc_circuit::Gate::{self, Cx, H, S, Sdg, T, Tdg};
 
@@ -332,14 +335,14 @@ fn texts_are_refused(rt: HostRuntime) {
 
 // A line, how many times, and the number and the place of the refusal, or none.
 const LONG: [(&[u8], usize, Option<(u8, usize)>); 9] = [
-    (b"t q[0];\n", 44, None),
-    (b"t q[0];\n", 45, Some((9, 377))),
-    (b"tdg q;\n", 45, Some((9, 333))),
-    (b"h q[0];\n", 4095, None),
-    (b"h q[0];\n", 4096, Some((10, 32785))),
-    (b"barrier q;", 4096, Some((10, 40975))),
+    (b"t q[0];\n", MOST_T_GATES, None),
+    (b"t q[0];\n", MOST_T_GATES + 1, Some((9, 377))),
+    (b"tdg q;\n", MOST_T_GATES + 1, Some((9, 333))),
+    (b"h q[0];\n", MOST_STATEMENTS - 1, None),
+    (b"h q[0];\n", MOST_STATEMENTS, Some((10, 32785))),
+    (b"barrier q;", MOST_STATEMENTS, Some((10, 40975))),
     (b" ", 65511, None),
-    (b"y q;", 4095, None),
+    (b"y q;", MOST_STATEMENTS - 1, None),
     (b"creg c[1];", 2, Some((12, 35))),
 ];
 
@@ -356,13 +359,14 @@ fn long_texts(rt: HostRuntime) {
     }
 }
 
-// A line behind 4,096 statements, and the number of its refusal, whose place is 32,785.
+// A line behind the most statements, and the number of its refusal, whose place is 32,785.
 const LATE: [(&[u8], u8); 4] = [(b"h q;", 10), (b"foo q;", 4), (b";", 3), (b"h q", 3)];
 
 #[test]
 fn a_statement_too_many(rt: HostRuntime) {
     for (line, number) in LATE {
-        let mut text = repeated(rt.alloc(), b"h q[0];\n", 4095).expect(&rt, "memory");
+        let mut text =
+            repeated(rt.alloc(), b"h q[0];\n", MOST_STATEMENTS - 1).expect(&rt, "memory");
         text.extend_from_slice(line).expect(&rt, "memory");
         assert_eq!(rt;
             refusal(rt.alloc(), &text),
@@ -458,5 +462,6 @@ fn halves_of_texts(rt: HostRuntime) {
 fn laws_are_calls(_rt: HostRuntime) {
     one_reading();
     read_circuits_are_small();
+    statements_within_limits_are_taken();
     one_halving();
 }

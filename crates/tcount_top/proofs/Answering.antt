@@ -1,16 +1,20 @@
 -- What writing an outcome makes of a run.
 use Rattle.std.proofs.Common.{◌≡◌, ◌⊎◌, ℕ, ◌<◌, List, [], ◌++◌, length, arith, sym, ap, ◌∙◌, subst, refl, inl, inr, None, Some}
+use Rattle.std.specs.Prelude.{⊤}
 use Rattle.std.specs.declared.option.Option.{Option}
 use Rattle.std.proofs.lemmas.List.{length-append, append-nil}
 use Rattle.std.specs.Io.KnownBytes.{Consumes}
+use Rattle.tc_circuit.specs.Circuit.{Gates}
 use Rattle.tc_io.specs.Stream.{ReadsAll, TakesFront, TakesAtMost}
-use Rattle.tcount_top.specs.declared.command.Command.TheVariants.{Synth, Levels}
-use Rattle.tcount_top.specs.Words.{IsSynth, IsLevels, IsCommand, AskText}
+use Rattle.tcount_top.specs.declared.command.TextCommand.{TextCommand}
+use Rattle.tcount_top.specs.declared.command.TextCommand.TheVariants.{Synth, Check}
+use Rattle.tcount_top.specs.declared.command.Command.TheVariants.{OverText, Levels}
+use Rattle.tcount_top.specs.Words.{IsLevels, SpellText, IsCommand, AskText}
 use Rattle.tcount_top.specs.Lines.{usage_line, too_long_line, levels_line}
-use Rattle.tcount_top.specs.Out.{Out, SynthOut, longest, usage, command, too_long, refused, past_limit, found, above}
+use Rattle.tcount_top.specs.Out.{Out, SynthOut, CircuitsOut, ProgramsOut, CheckOut, TextOut, longest, usage, command, too_long, refused, past_limit, found, above, many_h, are_same, differ, first_refused, second_refused, both_read, overlong, bad_byte, no_halves, halved}
 use Rattle.tcount_top.specs.Run.{Device, Answers, Responds, TakesText, OnContent, IsOutcome, IsSound, IsUntouched, Failed}
 use Rattle.tcount_top.specs.declared.top.Status.{Status}
-use Rattle.tcount_top.specs.declared.top.Status.TheVariants.{Found, Refused, Usage, ReadFault, WriteFault, NoMemory}
+use Rattle.tcount_top.specs.declared.top.Status.TheVariants.{Found, Above, Refused, Usage, ReadFault, WriteFault, NoMemory}
 use Rattle.tcount_top.proofs.Words.{one_command}
 
 -- a weaker claim on the content
@@ -102,29 +106,84 @@ responded words source sink wanted status bytes is out took (inr h) = record {
   at_most = took.at_most;
 }
 
--- no outcome of a text is want of memory or a fault
-synth_is_outcome : (bound : ℕ) (text : List ℕ) (status : Status) (bytes : List ℕ) → SynthOut bound text status bytes → IsOutcome status
-synth_is_outcome bound text status bytes (too_long l) = tt
-synth_is_outcome bound text status bytes (refused l number place r) = tt
-synth_is_outcome bound text status bytes (past_limit l c r o) = tt
-synth_is_outcome bound text status bytes (found c t k l w b s) = tt
-synth_is_outcome bound text status bytes (above c t k l o) = tt
+-- the outcome of a text is Found, Above or Refused
+abbrev pub IsAnswer : Status → Type 0
+IsAnswer Found = ⊤
+IsAnswer Above = ⊤
+IsAnswer Refused = ⊤
+IsAnswer Usage = ⊥
+IsAnswer ReadFault = ⊥
+IsAnswer WriteFault = ⊥
+IsAnswer NoMemory = ⊥
+
+synth_answer : (bound : ℕ) (text : List ℕ) (status : Status) (bytes : List ℕ) → SynthOut bound text status bytes → IsAnswer status
+synth_answer bound text status bytes (too_long l) = tt
+synth_answer bound text status bytes (refused l number place r) = tt
+synth_answer bound text status bytes (past_limit l c r o) = tt
+synth_answer bound text status bytes (found c t k l w b s) = tt
+synth_answer bound text status bytes (above c t k l o) = tt
+
+circuits_answer : (c d : Gates) (status : Status) (bytes : List ℕ) → CircuitsOut c d status bytes → IsAnswer status
+circuits_answer c d status bytes (many_h count m) = tt
+circuits_answer c d status bytes (are_same few s) = tt
+circuits_answer c d status bytes (differ few o) = tt
+
+programs_answer : (cut : ℕ) (x y : List ℕ) (status : Status) (bytes : List ℕ) → ProgramsOut cut x y status bytes → IsAnswer status
+programs_answer cut x y status bytes (first_refused number place r) = tt
+programs_answer cut x y status bytes (second_refused c h number place r) = tt
+programs_answer cut x y status bytes (both_read c d hc hd s b out) = circuits_answer c d s b out
+
+check_answer : (text : List ℕ) (status : Status) (bytes : List ℕ) → CheckOut text status bytes → IsAnswer status
+check_answer text status bytes (overlong l) = tt
+check_answer text status bytes (bad_byte l place b) = tt
+check_answer text status bytes (no_halves l h) = tt
+check_answer text status bytes (halved l cut h s b out) = programs_answer cut _ _ s b out
+
+pub text_answer : (asked : TextCommand) (text : List ℕ) (status : Status) (bytes : List ℕ) → TextOut asked text status bytes → IsAnswer status
+text_answer (Synth bound workers) text status bytes out = synth_answer bound text status bytes out
+text_answer Check text status bytes out = check_answer text status bytes out
+
+-- that is neither want of memory nor a fault
+answer_is_outcome : (status : Status) → IsAnswer status → IsOutcome status
+answer_is_outcome Found v = tt
+answer_is_outcome Above v = tt
+answer_is_outcome Refused v = tt
+answer_is_outcome Usage v = tt
+answer_is_outcome ReadFault v = absurd v
+answer_is_outcome WriteFault v = absurd v
+answer_is_outcome NoMemory v = absurd v
+
+-- so where it was handed to the sink, a run answers no want of memory, no fault of reading and no usage
+pub never_silent : (sink : Device) (bytes : List ℕ) (wanted status : Status) → IsAnswer wanted → Responds sink bytes wanted status → (status ≡ NoMemory) ⊎ (status ≡ ReadFault) → ⊥
+never_silent sink bytes wanted status v (inl h) (inl e) = subst IsAnswer (sym h.0 ∙ e) v
+never_silent sink bytes wanted status v (inl h) (inr e) = subst IsAnswer (sym h.0 ∙ e) v
+never_silent sink bytes wanted status v (inr h) (inl e) = let f : WriteFault ≡ NoMemory = sym h.0 ∙ e in cc
+never_silent sink bytes wanted status v (inr h) (inr e) = let f : WriteFault ≡ ReadFault = sym h.0 ∙ e in cc
+
+pub never_usage : (sink : Device) (bytes : List ℕ) (wanted status : Status) → IsAnswer wanted → Responds sink bytes wanted status → status ≡ Usage → ⊥
+never_usage sink bytes wanted status v (inl h) e = subst IsAnswer (sym h.0 ∙ e) v
+never_usage sink bytes wanted status v (inr h) e = let f : WriteFault ≡ Usage = sym h.0 ∙ e in cc
+
+-- what each command answers to a text that is too long
+too_long_out : (asked : TextCommand) (text : List ℕ) → longest < length text → TextOut asked text Refused too_long_line
+too_long_out (Synth bound workers) text long = too_long long
+too_long_out Check text long = overlong long
 
 -- the outcome for a text that was read to its end
-pub read_answers : (words : List (List ℕ)) (source sink : Device) (bound workers : ℕ) → IsSynth words bound workers → (wanted status : Status) (text bytes : List ℕ) → IsSound source
-    → ReadsAll longest source.bytes_before source.bytes_after text → SynthOut bound text wanted bytes → Responds sink bytes wanted status → Answers words source sink status
-read_answers words source sink bound workers is wanted status text bytes sound all due response =
+pub read_answers : (words : List (List ℕ)) (source sink : Device) (asked : TextCommand) → SpellText words asked → (wanted status : Status) (text bytes : List ℕ) → IsSound source
+    → ReadsAll longest source.bytes_before source.bytes_after text → TextOut asked text wanted bytes → Responds sink bytes wanted status → Answers words source sink status
+read_answers words source sink asked is wanted status text bytes sound all due response =
     let ends = content_read source.bytes_before source.bytes_after text in
-    responded words source sink wanted status bytes (synth_is_outcome bound text wanted bytes due) (ends _ all (command (Synth bound workers) is due))
+    responded words source sink wanted status bytes (answer_is_outcome wanted (text_answer asked text wanted bytes due)) (ends _ all (command (OverText asked) is due))
     record { sound = sound; text = λ _. ends (TakesText source) all (record { whole = λ _. all; front = λ long. absurd (omega (arith, all.short, long)) }); at_most = takes_all _ _ text all }
     response
 
 -- the outcome for a text of which 65,537 bytes were taken
-pub past_answers : (words : List (List ℕ)) (source sink : Device) (bound workers : ℕ) → IsSynth words bound workers → (status : Status) → IsSound source
+pub past_answers : (words : List (List ℕ)) (source sink : Device) (asked : TextCommand) → SpellText words asked → (status : Status) → IsSound source
     → TakesFront 65537 source.bytes_before source.bytes_after → Responds sink too_long_line Refused status → Answers words source sink status
-past_answers words source sink bound workers is status sound front response =
+past_answers words source sink asked is status sound front response =
     let past = content_past source.bytes_before source.bytes_after in
-    responded words source sink Refused status too_long_line tt (past _ front (λ text long. command (Synth bound workers) is (too_long long)))
+    responded words source sink Refused status too_long_line tt (past _ front (λ text long. command (OverText asked) is (too_long_out asked text long)))
     record { sound = sound; text = λ _. past (TakesText source) front (λ text long. record { whole = λ short. absurd (omega (arith, short, long)); front = λ _. front }); at_most = takes_front _ _ front }
     response
 
@@ -136,11 +195,11 @@ unread words source unasked same sound = record { sound = sound; text = λ ask. 
 pub usage_answers : (words : List (List ℕ)) (source sink : Device) → (IsCommand words → ⊥) → (status : Status) → IsUntouched source → IsSound source → Responds sink usage_line Usage status → Answers words source sink status
 usage_answers words source sink none status same sound response =
     responded words source sink Usage status usage_line tt (on_any source.bytes_before _ (λ text. usage none refl refl))
-    (unread words source (λ ask. none (Synth ask.0 ask.1, ask.2)) same sound) response
+    (unread words source (λ ask. none (OverText ask.0, ask.1)) same sound) response
 
 -- words that are `levels` ask for no text
 pub levels_ask_none : (words : List (List ℕ)) (qubits top workers : ℕ) → IsLevels words qubits top workers → AskText words → ⊥
-levels_ask_none words qubits top workers is ask = let same : Levels qubits top workers ≡ Synth ask.0 ask.1 = one_command words (Levels qubits top workers) (Synth ask.0 ask.1) is ask.2 in cc
+levels_ask_none words qubits top workers is ask = let same : Levels qubits top workers ≡ OverText ask.0 = one_command words (Levels qubits top workers) (OverText ask.0) is ask.1 in cc
 
 -- and their answer
 pub levels_answers : (words : List (List ℕ)) (source sink : Device) (qubits top workers : ℕ) → IsLevels words qubits top workers → (status : Status) → IsUntouched source → IsSound source → (status ≡ NoMemory → IsUntouched sink)

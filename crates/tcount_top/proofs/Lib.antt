@@ -4,5 +4,9 @@ pub mod Printing
 pub mod Outcomes
 pub mod Answering
 pub mod Once
+pub mod Comparing
+pub mod OneCheck
 pub mod OneOutcome
 pub mod OneAnswer
+pub mod Existence
+pub mod Complete

@@ -1,24 +1,19 @@
 -- Words and a text have one outcome.
 use Rattle.std.proofs.Common.{◌≡◌, ℕ, ◌<◌, ◌≤◌, List, refl, ap, sym, ◌∙◌, subst, arith}
-use Rattle.tc_circuit.specs.Circuit.{Gates, IsSmallCircuit}
-use Rattle.tc_circuit.specs.Model.{Same, IsLeastTCount}
+use Rattle.tc_circuit.specs.Circuit.{Gates}
+use Rattle.tc_circuit.specs.Model.{IsLeastTCount}
 use Rattle.qasm_reader.specs.Read.{Reads, Refused as IsRefused}
 use Rattle.tcount_top.specs.declared.top.Status.{Status}
+use Rattle.tcount_top.specs.declared.command.TextCommand.{TextCommand}
+use Rattle.tcount_top.specs.declared.command.TextCommand.TheVariants.{Synth, Check}
 use Rattle.tcount_top.specs.declared.command.Command.{Command}
-use Rattle.tcount_top.specs.declared.command.Command.TheVariants.{Synth, Levels}
+use Rattle.tcount_top.specs.declared.command.Command.TheVariants.{OverText, Levels}
 use Rattle.tcount_top.specs.Lines.{refusal_line, limit_line}
 use Rattle.tcount_top.specs.Printed.{IsPrinted}
 use Rattle.tcount_top.specs.Laws.{OneOutcome, PrintedOnce}
-use Rattle.tcount_top.specs.Out.{CommandOut, SynthOut, ShowsLike, most_bound, usage, command, too_long, refused, past_limit, found, above}
+use Rattle.tcount_top.specs.Out.{TextOut, CommandOut, SynthOut, ShowsLike, most_bound, usage, command, too_long, refused, past_limit, found, above}
 use Rattle.tcount_top.proofs.Words.{one_command}
-
--- the laws of the reader
-pub record Reading : Type 0 where
-  pub never_both : (text : List ℕ) (c : Gates) (n p : ℕ) → Reads text c → IsRefused text n p → ⊥
-  pub circuit : (text : List ℕ) (c d : Gates) → Reads text c → Reads text d → c ≡ d
-  pub refusal : (text : List ℕ) (n p m q : ℕ) → IsRefused text n p → IsRefused text m q → (n ≡ m) × (p ≡ q)
-  pub small : (text : List ℕ) (c : Gates) → Reads text c → IsSmallCircuit c
-  pub itself : (c : Gates) → IsSmallCircuit c → Same c.qubits c.gates c.gates
+use Rattle.tcount_top.proofs.OneCheck.{Reading, Halving, one_check}
 
 -- a circuit has one least T-count
 pub least_unique : (c : Gates) (t u : ℕ) → IsLeastTCount c.qubits c.gates t → IsLeastTCount c.qubits c.gates u → t ≡ u
@@ -79,13 +74,17 @@ module _ (reading : Reading) (once : PrintedOnce) (bound : ℕ) (text : List ℕ
   one_synth s t a b (above c k u h o) (above d k' u' h' o') = (refl, refl)
 
 -- each command has one
-one_command_out : Reading → PrintedOnce → (c : Command) (text : List ℕ) (s t : Status) (a b : List ℕ) → CommandOut c text s a → CommandOut c text t b → (s ≡ t) × (a ≡ b)
-one_command_out reading once (Synth m w) text s t a b x y = one_synth reading once m text s t a b x y
-one_command_out reading once (Levels n k w) text s t a b x y = (x.0 ∙ sym y.0, x.1 ∙ sym y.1)
+one_text_out : Reading → Halving → PrintedOnce → (c : TextCommand) (text : List ℕ) (s t : Status) (a b : List ℕ) → TextOut c text s a → TextOut c text t b → (s ≡ t) × (a ≡ b)
+one_text_out reading halving once (Synth m w) text s t a b x y = one_synth reading once m text s t a b x y
+one_text_out reading halving once Check text s t a b x y = one_check reading halving text s t a b x y
 
-pub one_outcome : Reading → PrintedOnce → OneOutcome
-one_outcome reading once words text s t a b (usage none e f) (usage none' e' f') = (e ∙ sym e', f ∙ sym f')
-one_outcome reading once words text s t a b (usage none e f) (command c is out) = absurd (none (c, is))
-one_outcome reading once words text s t a b (command c is out) (usage none e f) = absurd (none (c, is))
-one_outcome reading once words text s t a b (command c is out) (command d is' out') =
-    one_command_out reading once c text s t a b out (subst (λ (x : Command). CommandOut x text t b) (sym (one_command words c d is is')) out')
+one_command_out : Reading → Halving → PrintedOnce → (c : Command) (text : List ℕ) (s t : Status) (a b : List ℕ) → CommandOut c text s a → CommandOut c text t b → (s ≡ t) × (a ≡ b)
+one_command_out reading halving once (OverText c) text s t a b x y = one_text_out reading halving once c text s t a b x y
+one_command_out reading halving once (Levels n k w) text s t a b x y = (x.0 ∙ sym y.0, x.1 ∙ sym y.1)
+
+pub one_outcome : Reading → Halving → PrintedOnce → OneOutcome
+one_outcome reading halving once words text s t a b (usage none e f) (usage none' e' f') = (e ∙ sym e', f ∙ sym f')
+one_outcome reading halving once words text s t a b (usage none e f) (command c is out) = absurd (none (c, is))
+one_outcome reading halving once words text s t a b (command c is out) (usage none e f) = absurd (none (c, is))
+one_outcome reading halving once words text s t a b (command c is out) (command d is' out') =
+    one_command_out reading halving once c text s t a b out (subst (λ (x : Command). CommandOut x text t b) (sym (one_command words c d is is')) out')

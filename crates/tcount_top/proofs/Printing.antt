@@ -60,7 +60,7 @@ pub record IsMade (n : ℕ) (m : ScaledTable) (w : List ℕ) (bytes : List ℕ) 
   pub no_t : t_count_of rest ≡ 0
   pub short : length rest ≤ 45
   pub of_left : IsBuiltOf n (steps_of rest) (scaled left)
-  pub blocks : length (word_gates n w) ≤ 17 * length w
+  pub blocks : length (word_gates n w) ≤ 25 * length w
   pub letters : IsWord n (length w) (word_texts n w)
   pub shows : bytes ≡ shown n (rest ++ word_gates n w) (word_texts n w)
 

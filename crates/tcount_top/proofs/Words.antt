@@ -9,8 +9,9 @@ use Rattle.std.proofs.lemmas.Result.{OkIff-at_ok}
 use Rattle.std.proofs.lemmas.Str.Parse.{IsNumeralModel, numerals_by_value, tells_by_index, parse_plain, digits_value_short}
 use Rattle.std.proofs.lemmas.Fmt.{parse-decimal, length-decimal-le, first_decimal, digits_decimal, decimal-digits_value, decimal_injective, decimal_nonempty, decimal_digit}
 use Rattle.coset_label.specs.Words.{most_letters}
+use Rattle.tcount_top.specs.declared.command.TextCommand.TheVariants.{Synth, Check}
 use Rattle.tcount_top.specs.declared.command.Command.{Command}
-use Rattle.tcount_top.specs.declared.command.Command.TheVariants.{Synth, Levels}
+use Rattle.tcount_top.specs.declared.command.Command.TheVariants.{OverText, Levels}
 use Rattle.tcount_top.specs.Words.{IsNumber, IsSynth, IsLevels, Spell, IsCommand}
 
 -- ---- numbers
@@ -75,7 +76,7 @@ pub record AreThree (name bound workers : List ℕ) : Type 0 where
   pub few : crew ≤ 8
 
 pub three_words : (name bound workers : List ℕ) → IsCommand (name ∷ bound ∷ workers ∷ []) → AreThree name bound workers
-three_words name bound workers (Synth m w, h) = record {
+three_words name bound workers (OverText (Synth m w), h) = record {
   is_synth = ap (λ (l : List (List ℕ)). slice_index_or l 0 []) h.spelled;
   least = m;
   is_bound = (ap (λ (l : List (List ℕ)). slice_index_or l 1 []) h.spelled, h.number);
@@ -84,6 +85,7 @@ three_words name bound workers (Synth m w, h) = record {
   some = h.crew.0;
   few = h.crew.1;
 }
+three_words name bound workers (OverText Check, h) = let long : 3 ≡ 1 = ap length h in absurd (omega (arith, long))
 three_words name bound workers (Levels n k w, h) = let long : 3 ≡ 4 = ap length h.spelled in absurd (omega (arith, long))
 
 -- and four words are `levels`, qubits, a level and workers
@@ -123,12 +125,20 @@ four_words name qubits top workers (Levels n k w, h) = record {
   some = h.crew.0;
   few = h.crew.1;
 }
-four_words name qubits top workers (Synth m w, h) = let long : 4 ≡ 3 = ap length h.spelled in absurd (omega (arith, long))
+four_words name qubits top workers (OverText (Synth m w), h) = let long : 4 ≡ 3 = ap length h.spelled in absurd (omega (arith, long))
+four_words name qubits top workers (OverText Check, h) = let long : 4 ≡ 1 = ap length h in absurd (omega (arith, long))
 
--- a command has three words or four
-pub command_length : (words : List (List ℕ)) → IsCommand words → (length words ≡ 3) ⊎ (length words ≡ 4)
-command_length words (Synth m w, h) = inl (ap length h.spelled)
-command_length words (Levels n k w, h) = inr (ap length h.spelled)
+-- one word that is a command is `check`
+pub one_word : (name : List ℕ) → IsCommand (name ∷ []) → name ≡ codes "check"
+one_word name (OverText (Synth m w), h) = let long : 1 ≡ 3 = ap length h.spelled in absurd (omega (arith, long))
+one_word name (OverText Check, h) = ap (λ (l : List (List ℕ)). slice_index_or l 0 []) h
+one_word name (Levels n k w, h) = let long : 1 ≡ 4 = ap length h.spelled in absurd (omega (arith, long))
+
+-- a command has one word, three or four
+pub command_length : (words : List (List ℕ)) → IsCommand words → (length words ≡ 1) ⊎ ((length words ≡ 3) ⊎ (length words ≡ 4))
+command_length words (OverText (Synth m w), h) = inr (inl (ap length h.spelled))
+command_length words (OverText Check, h) = inl (ap length h)
+command_length words (Levels n k w, h) = inr (inr (ap length h.spelled))
 
 -- words that are numbers in these ranges are the commands
 pub is_synth : (name bound workers : List ℕ) (m w : ℕ) → name ≡ codes "synth" → IsNumber bound m → IsNumber workers w → 1 ≤ w → w ≤ 8 → IsSynth (name ∷ bound ∷ workers ∷ []) m w
@@ -141,12 +151,17 @@ is_levels name qubits top workers n k w e a n_some n_few b low c some few = reco
 -- ---- one command
 -- words are at most one command
 pub one_command : (words : List (List ℕ)) (a b : Command) → Spell words a → Spell words b → a ≡ b
-one_command words (Synth m w) (Synth m' w') h h' =
+one_command words (OverText (Synth m w)) (OverText (Synth m' w')) h h' =
     let e = sym h.spelled ∙ h'.spelled in
     let bound : m ≡ m' = decimal_injective m m' (small m h.number) (small m' h'.number) (ap (λ (l : List (List ℕ)). slice_index_or l 1 []) e) in
-    let crew : w ≡ w' = decimal_injective w w' (omega (arith, h.crew.1)) (omega (arith, h'.crew.1)) (ap (λ (l : List (List ℕ)). slice_index_or l 2 []) e) in λ i. Synth (bound i) (crew i)
-one_command words (Synth m w) (Levels n k v) h h' = let long : 3 ≡ 4 = sym (ap length h.spelled) ∙ ap length h'.spelled in absurd (omega (arith, long))
-one_command words (Levels n k v) (Synth m w) h h' = let long : 4 ≡ 3 = sym (ap length h.spelled) ∙ ap length h'.spelled in absurd (omega (arith, long))
+    let crew : w ≡ w' = decimal_injective w w' (omega (arith, h.crew.1)) (omega (arith, h'.crew.1)) (ap (λ (l : List (List ℕ)). slice_index_or l 2 []) e) in λ i. OverText (Synth (bound i) (crew i))
+one_command words (OverText (Synth m w)) (OverText Check) h h' = let long : 3 ≡ 1 = sym (ap length h.spelled) ∙ ap length h' in absurd (omega (arith, long))
+one_command words (OverText (Synth m w)) (Levels n k v) h h' = let long : 3 ≡ 4 = sym (ap length h.spelled) ∙ ap length h'.spelled in absurd (omega (arith, long))
+one_command words (OverText Check) (OverText (Synth m w)) h h' = let long : 1 ≡ 3 = sym (ap length h) ∙ ap length h'.spelled in absurd (omega (arith, long))
+one_command words (OverText Check) (OverText Check) h h' = refl
+one_command words (OverText Check) (Levels n k v) h h' = let long : 1 ≡ 4 = sym (ap length h) ∙ ap length h'.spelled in absurd (omega (arith, long))
+one_command words (Levels n k v) (OverText (Synth m w)) h h' = let long : 4 ≡ 3 = sym (ap length h.spelled) ∙ ap length h'.spelled in absurd (omega (arith, long))
+one_command words (Levels n k v) (OverText Check) h h' = let long : 4 ≡ 1 = sym (ap length h.spelled) ∙ ap length h' in absurd (omega (arith, long))
 one_command words (Levels n k w) (Levels n' k' w') h h' =
     let e = sym h.spelled ∙ h'.spelled in
     let qubits : n ≡ n' = decimal_injective n n' (omega (arith, h.few)) (omega (arith, h'.few)) (ap (λ (l : List (List ℕ)). slice_index_or l 1 []) e) in

@@ -3,5 +3,6 @@ pub mod Words
 pub mod Lines
 pub mod Printed
 pub mod Out
+pub mod Compared
 pub mod Run
 pub mod Laws

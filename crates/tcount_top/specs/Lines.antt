@@ -18,6 +18,21 @@ too_long_line = codes "refused 14\n"
 unfoldable pub limit_line : ℕ → ℕ → List ℕ
 limit_line bound limit = codes "refused 13 bound " ++ decimal bound ++ codes " limit " ++ decimal limit ++ codes "\n"
 
+-- what is written where a text isn't two programs, one after the other
+unfoldable pub no_halves_line : List ℕ
+no_halves_line = codes "refused 16\n"
+
+-- the line of a circuit that has too many h gates to be compared
+unfoldable pub many_h_line : ℕ → List ℕ
+many_h_line count = codes "refused 15 count " ++ decimal count ++ codes "\n"
+
+-- what is written where two circuits are the same, and where they aren't
+unfoldable pub same_line : List ℕ
+same_line = codes "same\n"
+
+unfoldable pub different_line : List ℕ
+different_line = codes "different\n"
+
 -- the line of a least T-count above the bound
 unfoldable pub above_line : ℕ → List ℕ
 above_line bound = codes "above " ++ decimal bound ++ codes "\n"

@@ -1,8 +1,10 @@
 -- The words of the command line, behind the program's name, and the command that they are.
-use Rattle.std.specs.Prelude.{◌≡◌, ℕ, ◌<◌, ◌≤◌, ◌^◌, List, [], ◌∷◌, map, codes, decimal}
+use Rattle.std.specs.Prelude.{⊤, ◌≡◌, ℕ, ◌<◌, ◌≤◌, ◌^◌, List, [], ◌∷◌, map, codes, decimal}
 use Rattle.coset_label.specs.Words.{most_letters}
+use Rattle.tcount_top.specs.declared.command.TextCommand.{TextCommand}
+use Rattle.tcount_top.specs.declared.command.TextCommand.TheVariants.{Synth, Check}
 use Rattle.tcount_top.specs.declared.command.Command.{Command}
-use Rattle.tcount_top.specs.declared.command.Command.TheVariants.{Synth, Levels}
+use Rattle.tcount_top.specs.declared.command.Command.TheVariants.{OverText, Levels}
 use denote.Ref.{Bor}
 
 -- the words' bytes
@@ -31,9 +33,18 @@ pub record IsLevels (words : List (List ℕ)) (qubits top workers : ℕ) : Type 
   pub low : top ≤ most_letters qubits
   pub crew : AreWorkers workers
 
+-- `check`, alone
+abbrev pub IsCheck : List (List ℕ) → Type 0
+IsCheck words = words ≡ codes "check" ∷ []
+
+-- the words are this command, which reads a text
+abbrev pub SpellText : List (List ℕ) → TextCommand → Type 0
+SpellText words (Synth bound workers) = IsSynth words bound workers
+SpellText words Check = IsCheck words
+
 -- the words are this command
 abbrev pub Spell : List (List ℕ) → Command → Type 0
-Spell words (Synth bound workers) = IsSynth words bound workers
+Spell words (OverText command) = SpellText words command
 Spell words (Levels qubits top workers) = IsLevels words qubits top workers
 
 -- the words are a command
@@ -42,4 +53,9 @@ IsCommand words = (command : Command) × Spell words command
 
 -- the words are a command that reads a text
 abbrev pub AskText : List (List ℕ) → Type 0
-AskText words = (bound workers : ℕ) × IsSynth words bound workers
+AskText words = (command : TextCommand) × SpellText words command
+
+-- the workers that a command names, where it names any, are 1 to 8
+abbrev pub HasCrew : TextCommand → Type 0
+HasCrew (Synth bound workers) = AreWorkers workers
+HasCrew Check = ⊤

@@ -3,16 +3,25 @@ ghost use Rattle.std.specs.Prelude.{◌≡◌, ◌↔◌, ℕ, ◌<◌, ◌≤�
 ghost use Rattle.coset_label.specs.Words.{most_letters};
 ghost use Rattle.tcount_top.specs.Words.{texts_of, IsNumber, Spell, IsCommand};
 
-/// What the words of the command line ask for.
+/// What the words of the command line ask of a text.
 #[derive(Clone, Copy, Debug, PartialEq, Eq)]
-pub(crate) enum Command {
-    /// The least T-count of the circuit that the source gives, where it is at most the bound.
+pub(crate) enum TextCommand {
+    /// A circuit with the least T-count of the text's circuit, where it is at most the bound.
     Synth {
         /// The most T gates.
         bound: u64,
         /// The number of workers, 1 to 8.
         workers: u32,
     },
+    /// Whether the two programs of the text are the same.
+    Check,
+}
+
+/// What the words of the command line ask for.
+#[derive(Clone, Copy, Debug, PartialEq, Eq)]
+pub(crate) enum Command {
+    /// An answer to the text that the source gives.
+    OverText(TextCommand),
     /// The sizes of levels.
     Levels {
         /// The number of qubits, 1 to 3.
@@ -73,7 +82,18 @@ fn synth(name: &str, bound: &str, workers: &str) -> Option<Command>
     }
     let bound = number(bound)?;
     let workers = number_within(workers, 1, 8)?;
-    Some(Command::Synth { bound, workers })
+    Some(Command::OverText(TextCommand::Synth { bound, workers }))
+}
+
+/// The command `check`, where one word is it.
+fn check(name: &str) -> Option<Command>
+    ensures some { IfSome result (λ command. Spell (name.now ∷ []) command) }
+    ensures none { IfNone result (IsCommand (name.now ∷ []) → ⊥) }
+{
+    if name != "check" {
+        return None;
+    }
+    Some(Command::OverText(TextCommand::Check))
 }
 
 /// The number of the last level on so many qubits, at most: words have so many letters.
@@ -115,6 +135,7 @@ impl Command {
         ensures none { IfNone result (IsCommand (texts_of words.now) → ⊥) }
     {
         match words {
+            [name] => check(name),
             [name, bound, workers] => synth(name, bound, workers),
             [name, qubits, top, workers] => levels(name, qubits, top, workers),
             _ => None,

@@ -1,13 +1,17 @@
 //! What holds of the outcomes.
 //!
 //! Each of these functions does nothing. Its contract is the law, for a caller's proof to use.
-ghost use Rattle.tcount_top.specs.Laws.{OneCommand, OneOutcome, PrintedOnce, LeastCountsExist, OneAnswerForOneMatrix};
+ghost use Rattle.tcount_top.specs.Laws.{OneCommand, OneOutcome, OutcomesExist, PrintedOnce, LeastCountsExist, OneAnswerForOneMatrix, AnswersAreComplete};
 
 use channel_rep::laws::tables_compare;
+use clifford_rest::laws::permutations_have_circuits;
 use coset_label::laws::tables_are_classes;
+use count_checker::sameness_is_decided;
 use level_laws::laws::{cosets_have_least_words, letters_come_off};
 use meet_laws::laws::{least_counts_are_lengths, words_stand_behind_rests};
-use qasm_reader::{one_reading, read_circuits_are_small};
+use printed_texts::printed_texts_read_back;
+use qasm_lex::one_cut;
+use qasm_reader::{one_halving, one_reading, read_circuits_are_small};
 use tc_bridge::laws::{circuits_have_one_channel, one_channel_where_same};
 use tc_ring::surd_laws_hold;
 
@@ -39,10 +43,38 @@ pub fn one_outcome()
 {
     circuits_have_one_channel();
     one_channel_where_same();
+    one_cut();
+    one_halving();
     one_reading();
     read_circuits_are_small();
     least_counts_are_lengths();
     printed_once();
+}
+
+/// Words that are a command have an outcome for each text: with [`one_outcome`] exactly one.
+pub fn outcomes_exist()
+    ensures { OutcomesExist }
+{
+    letters_come_off();
+    tables_compare();
+    circuits_have_one_channel();
+    least_counts_are_lengths();
+    words_stand_behind_rests();
+    permutations_have_circuits();
+    printed_texts_read_back();
+    one_halving();
+    one_reading();
+    read_circuits_are_small();
+    sameness_is_decided();
+}
+
+/// Where the words are a command that accepts the source's content and no device failed, a run answers Found or Above, or memory
+/// was wanting. It follows from what [`run`](crate::run) promises of its answers.
+pub fn answers_are_complete()
+    ensures { AnswersAreComplete }
+{
+    one_halving();
+    one_reading();
 }
 
 /// Texts whose circuits on as many qubits have one matrix up to global phase, and so one channel, have for each bound one

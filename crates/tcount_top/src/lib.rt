@@ -1,12 +1,14 @@
 //! `tcount` over any source and sink: [`run`] does what the words of the command line ask for.
 //!
 //! `synth` reads a program text, finds the least T-count of its circuit, and writes a circuit that has it, or that the least
-//! T-count is greater than a bound. `levels` writes how many cosets have each T-count. The contract of [`run`] is in
+//! T-count is greater than a bound. `check` reads two programs and writes whether their circuits are the same. `levels` writes
+//! how many cosets have each T-count. The contract of [`run`] is in
 //! `specs/Words` (which words are which command), `specs/Out` (which status and bytes are the outcome for which words and
 //! text), `specs/Printed` (which of the circuits with the least T-count is written) and `specs/Run` (how a run hands the
 //! bytes over).
 #![tactic(auto)]
 
+mod check;
 mod command;
 pub mod laws;
 mod lines;

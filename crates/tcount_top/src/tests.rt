@@ -37,7 +37,7 @@ fn answer<H: Threads + Sync, G: Turnstile + Sync>(
 #[test]
 fn usage(rt: HostRuntime) -> Result<(), Fail> {
     let line = "usage: synth M W | check | levels N K W | bench N T SEED M W\n";
-    let rows: [&[&str]; 19] = [
+    let rows: [&[&str]; 22] = [
         &["synth", "5", "9"],
         &["synth", "5", "0"],
         &["synth", "0", "1", "1"],
@@ -50,6 +50,9 @@ fn usage(rt: HostRuntime) -> Result<(), Fail> {
         &["synth", "", "1"],
         &["synth", "1x", "1"],
         &["synth", "10000000000", "1"],
+        &["check", "1"],
+        &["-check"],
+        &["synth"],
         &["levels", "0", "1", "1"],
         &["levels", "4", "1", "1"],
         &["levels", "1", "10", "1"],
@@ -268,6 +271,129 @@ fn limits(rt: HostRuntime) -> Result<(), Fail> {
     Ok(())
 }
 
+// Texts of two programs, and what `check` answers to them.
+#[test]
+fn comparisons(rt: HostRuntime) -> Result<(), Fail> {
+    let rows = [
+        // The phase between t x t and x is ω.
+        (
+            "OPENQASM 2.0;\nqreg q[1];\nt q[0];\nx q[0];\nt q[0];\nOPENQASM 2.0;\nqreg q[1];\nx q[0];\n",
+            Status::Found,
+            "same\n",
+        ),
+        (
+            "OPENQASM 2.0;\nqreg q[1];\nt q[0];\nOPENQASM 2.0;\nqreg q[1];\ntdg q[0];\n",
+            Status::Above,
+            "different\n",
+        ),
+        (
+            "OPENQASM 2.0;\nqreg q[1];\n// of OPENQASM\nOPENQASM 2.0;qreg a[1];",
+            Status::Found,
+            "same\n",
+        ),
+        (
+            "OPENQASM 2.0;\nqreg q[1];\nOPENQASM 2.0;\nqreg q[2];\n",
+            Status::Above,
+            "different\n",
+        ),
+        (
+            "OPENQASM 2.0;\nqreg q[3];\nccx q[0],q[1],q[2];\nccx q[1],q[0],q[2];\nOPENQASM 2.0;\nqreg a[2];\nqreg b[1];\n",
+            Status::Found,
+            "same\n",
+        ),
+        ("", Status::Refused, "refused 16\n"),
+        (
+            "OPENQASM 2.0;\nqreg q[1];\n",
+            Status::Refused,
+            "refused 16\n",
+        ),
+        (
+            "OPENQASM 2.0;\nqreg q[1];\nOPENQASM 2.0;\nqreg q[1];\nOPENQASM 2.0;\n",
+            Status::Refused,
+            "refused 16\n",
+        ),
+        ("#", Status::Refused, "refused 2 at 0\n"),
+        (
+            "qreg q[4];\nOPENQASM 2.0;\nqreg q[1];\nOPENQASM 2.0;\nqreg q[1];\n#\n",
+            Status::Refused,
+            "refused 2 at 61\n",
+        ),
+        (
+            "qreg q[4];\nOPENQASM 2.0;\nOPENQASM 2.0;\nqreg q[4];\n",
+            Status::Refused,
+            "refused 1 at 0\n",
+        ),
+        (
+            "OPENQASM 2.0;\nqreg q[1];\nfoo q[0];\nOPENQASM 3.0;\nqreg q[1];\n",
+            Status::Refused,
+            "refused 4 at 25\n",
+        ),
+        (
+            "OPENQASM 2.0;\nqreg q[1];\nOPENQASM 3.0;\nqreg q[1];\n",
+            Status::Refused,
+            "refused 1 at 25\n",
+        ),
+        (
+            "OPENQASM 2.0;\nqreg q[1];\nOPENQASM 2.0;\nqreg q[1];\nh q[1];\n",
+            Status::Refused,
+            "refused 6 at 50\n",
+        ),
+        (
+            "OPENQASM 2.0;\nqreg q[1];\nOPENQASM 2.0;\n",
+            Status::Refused,
+            "refused 8 at 39\n",
+        ),
+    ];
+    for (text, status, bytes) in rows {
+        let (answered, written) =
+            answer(&rt, rt.alloc(), &["check"], text.as_bytes(), &OpenWay)?;
+        assert_eq!(rt; answered, status, "{text:?}");
+        assert!(rt; written.as_slice() == bytes.as_bytes(), "{text:?}");
+    }
+    Ok(())
+}
+
+// Two programs with many h gates: how many each has, and what `check` answers; and texts that are too long.
+#[test]
+fn many_h_gates(rt: HostRuntime) -> Result<(), Fail> {
+    let one = "OPENQASM 2.0;\nqreg q[1];\n";
+    let rows = [
+        (121, 0, Status::Refused, "refused 15 count 121\n"),
+        (0, 122, Status::Refused, "refused 15 count 122\n"),
+        (121, 122, Status::Refused, "refused 15 count 121\n"),
+        (120, 120, Status::Found, "same\n"),
+        (120, 119, Status::Above, "different\n"),
+    ];
+    for (first, second, status, bytes) in rows {
+        let mut text = repeated(rt.alloc(), one, "h q[0];\n", first)?;
+        let behind = repeated(rt.alloc(), one, "h q[0];\n", second)?;
+        text.extend_from_slice(&behind)?;
+        let (answered, written) = answer(&rt, rt.alloc(), &["check"], &text, &OpenWay)?;
+        assert_eq!(rt; answered, status, "{first} and {second}");
+        assert!(rt; written.as_slice() == bytes.as_bytes(), "{first} and {second}");
+    }
+    for (spaces, bytes) in [(65536, "refused 16\n"), (65537, "refused 14\n")] {
+        let text = repeated(rt.alloc(), "", " ", spaces)?;
+        let (status, written) = answer(&rt, rt.alloc(), &["check"], &text, &OpenWay)?;
+        assert_eq!(rt; status, Status::Refused, "{spaces}");
+        assert!(rt; written.as_slice() == bytes.as_bytes(), "{spaces}");
+    }
+    Ok(())
+}
+
+// Whether `check` says of two programs that they are the same.
+fn are_same<H: Threads + Sync>(
+    th: &H,
+    alloc: Global,
+    first: &[u8],
+    second: &[u8],
+) -> Result<bool, AllocError> {
+    let mut text = Vec::from_slice(alloc, first)?;
+    text.extend_from_slice(second)?;
+    let (status, bytes) = answer(th, alloc, &["check"], &text, &OpenWay)?;
+    Ok(status == Status::Found && bytes.as_slice() == b"same\n".as_slice())
+}
+
 // The bytes don't depend on the number of workers.
 #[test]
 fn any_workers(rt: HostRuntime) -> Result<(), Fail> {
@@ -311,6 +437,15 @@ fn sizes_of_levels(rt: HostRuntime) -> Result<(), Fail> {
     Ok(())
 }
 
+// Each level of two qubits, to the last.
+#[test]
+fn all_levels_of_two_qubits(rt: HostRuntime) -> Result<(), Fail> {
+    let (status, bytes) = answer(&rt, rt.alloc(), &["levels", "2", "6", "1"], b"", &OpenWay)?;
+    assert_eq!(rt; status, Status::Found);
+    assert!(rt; bytes.as_slice() == b"1 15 165 1695 16710 161670 1548480\n".as_slice());
+    Ok(())
+}
+
 #[test]
 fn two_workers_meet(rt: HostRuntime) -> Result<(), Fail> {
     let gate = Meeting::new();
@@ -339,7 +474,7 @@ fn two_searchers_meet(rt: HostRuntime) -> Result<(), Fail> {
     Ok(())
 }
 
-// A Toffoli gate takes seven T gates, and no circuit on its three qubits has fewer.
+// A Toffoli gate takes seven T gates, and no circuit on its three qubits has fewer. What is printed for it is the same.
 #[test]
 fn toffoli(rt: HostRuntime) -> Result<(), Fail> {
     let text = b"OPENQASM 2.0;\nqreg q[3];\nccx q[0],q[1],q[2];\n".as_slice();
@@ -349,11 +484,12 @@ fn toffoli(rt: HostRuntime) -> Result<(), Fail> {
     let (status, bytes) = answer(&rt, rt.alloc(), &["synth", "7", "4"], text, &OpenWay)?;
     assert_eq!(rt; status, Status::Found);
     assert!(rt; bytes.starts_with(b"// t-count 7\n// word "));
+    assert!(rt; are_same(&rt, rt.alloc(), text, &bytes)?);
     Ok(())
 }
 
 // A circuit by a seed has at most as many T gates as are in its text, has one print whatever the number of workers, and the
-// print is its own.
+// print is its own and the same.
 #[test]
 fn made_circuits(rt: HostRuntime) -> Result<(), Fail> {
     for seed in 0..200u64 {
@@ -361,6 +497,7 @@ fn made_circuits(rt: HostRuntime) -> Result<(), Fail> {
         let words = ["synth", bound, "1"];
         let (status, bytes) = answer(&rt, rt.alloc(), &words, &text, &OpenWay)?;
         assert_eq!(rt; status, Status::Found, "seed {seed}");
+        assert!(rt; are_same(&rt, rt.alloc(), &text, &bytes)?, "seed {seed}");
         for workers in ["1", "2", "3", "8"] {
             let words = ["synth", bound, workers];
             let (_, again) = answer(&rt, rt.alloc(), &words, &bytes, &OpenWay)?;

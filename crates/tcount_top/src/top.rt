@@ -1,11 +1,13 @@
 //! The top call.
-ghost use Rattle.std.specs.Prelude.{◌≡◌, ◌⊎◌, ◌≤◌, ℕ, List};
-ghost use Rattle.tcount_top.specs.Words.{texts_of, IsSynth, IsCommand, AskText};
+ghost use Rattle.std.specs.Prelude.{◌≡◌, ◌⊎◌, ◌≤◌, ℕ, List, IfOk, length};
+ghost use Rattle.tcount_top.specs.Words.{texts_of, SpellText, IsCommand, AskText, HasCrew};
+ghost use Rattle.tcount_top.specs.Out.{TextOut, longest};
 ghost use Rattle.tcount_top.specs.Lines.{usage_line, levels_line};
 ghost use Rattle.tcount_top.specs.Run.{Answers, Responds};
 ghost use Rattle.coset_label.specs.Words.{most_letters};
 
-use crate::command::Command;
+use crate::check::check;
+use crate::command::{Command, TextCommand};
 use crate::lines::{TOO_LONG, USAGE};
 use crate::sizes::sizes;
 use crate::synth::synth;
@@ -17,9 +19,9 @@ use tc_io::{Failed, ReadAllFault, Sink, Source, read_all, write_all};
 /// How a run ends.
 #[derive(Clone, Copy, Debug, PartialEq, Eq)]
 pub enum Status {
-    /// A circuit was found within the bound.
+    /// A circuit was found within the bound, two programs are the same, or the sizes of levels were found.
     Found,
-    /// Each circuit has more T gates than the bound.
+    /// Each circuit has more T gates than the bound, or two programs differ.
     Above,
     /// The text was refused.
     Refused,
@@ -71,19 +73,35 @@ fn respond<K: Sink>(sink: &mut K, bytes: &[u8], status: Status) -> Status
     }
 }
 
-/// Reads a text, and writes what `synth` answers to it.
-fn run_synth<H: Threads + Sync, S: Source, K: Sink, G: Turnstile + Sync>(
+/// The status and the bytes of the outcome for a text of at most 65,536 bytes.
+fn answer<H: Threads + Sync, G: Turnstile + Sync>(
     th: &H,
     alloc: Global,
-    bound: u64,
-    workers: u32,
+    command: TextCommand,
+    text: &[u8],
+    gate: &G,
+) -> Result<(Status, Vec<u8>), AllocError>
+    requires short { length text.now ≤ longest }
+    requires crew { HasCrew command }
+    ensures { IfOk result (λ r. TextOut command text.now r.0 r.1.items) }
+{
+    match command {
+        TextCommand::Synth { bound, workers } => synth(th, alloc, text, bound, workers, gate),
+        TextCommand::Check => check(alloc, text),
+    }
+}
+
+/// Reads a text, and writes what a command answers to it.
+fn run_over_text<H: Threads + Sync, S: Source, K: Sink, G: Turnstile + Sync>(
+    th: &H,
+    alloc: Global,
+    command: TextCommand,
     src: &mut S,
     sink: &mut K,
     gate: &G,
 ) -> Status
-    requires some { 1 ≤ workers }
-    requires few { workers ≤ 8 }
-    ensures answers { (words : List (List ℕ)) → IsSynth words bound workers → Answers words
+    requires crew { HasCrew command }
+    ensures answers { (words : List (List ℕ)) → SpellText words command → Answers words
         (record {
           bytes_before = S.left src.old;
           bytes_after = S.left src.new;
@@ -107,7 +125,7 @@ fn run_synth<H: Threads + Sync, S: Source, K: Sink, G: Turnstile + Sync>(
         Err(ReadAllFault::TooLong) => return respond(sink, TOO_LONG, Status::Refused),
         Err(ReadAllFault::Memory) => return Status::NoMemory,
     };
-    match synth(th, alloc, &text, bound, workers, gate) {
+    match answer(th, alloc, command, &text, gate) {
         Ok((status, bytes)) => respond(sink, &bytes, status),
         Err(AllocError) => Status::NoMemory,
     }
@@ -154,12 +172,14 @@ fn run_levels<H: Threads + Sync, K: Sink, G: Turnstile + Sync>(
 /// The gates are h, s, sdg, t, tdg and cx, and a circuit is any finite list of them. A text is accepted where it reads as a
 /// circuit on one to three qubits and has at most 65,536 bytes, and the limit of m is 18, 12 or 8. Which status and which
 /// bytes are the outcome for words and a text is said in `specs/Out`, for every text and for the other commands too. The
-/// number of workers, the gate and the schedule are no part of it, and [`one_outcome`](crate::laws::one_outcome) says that
-/// there is one outcome: so the bytes are a function of the words and the text.
+/// number of workers, the gate and the schedule are no part of it, and there is one outcome for words that are a command and a
+/// text ([`outcomes_exist`](crate::laws::outcomes_exist), [`one_outcome`](crate::laws::one_outcome)): so the bytes are a function
+/// of the words and the text.
 ///
 /// In its place comes [`Status::NoMemory`] at want of memory, [`Status::ReadFault`] where a read failed, both before the first
-/// byte is written, and [`Status::WriteFault`] where a write failed, behind a part of the outcome's bytes. Words that are no
-/// command take no memory and read nothing.
+/// byte is written, and [`Status::WriteFault`] where a write failed, behind a part of the outcome's bytes. Where no device
+/// failed and the command accepts the text, the answer is Found or Above, or memory was wanting
+/// ([`answers_are_complete`](crate::laws::answers_are_complete)). Words that are no command take no memory and read nothing.
 pub fn run<H: Threads + Sync, S: Source, K: Sink, G: Turnstile + Sync>(
     th: &H,
     alloc: Global,
@@ -203,9 +223,7 @@ pub fn run<H: Threads + Sync, S: Source, K: Sink, G: Turnstile + Sync>(
     ensures writes { K.faults sink.old ≤ K.faults sink.new }
 {
     match Command::of_words(words) {
-        Some(Command::Synth { bound, workers }) => {
-            run_synth(th, alloc, bound, workers, src, sink, gate)
-        }
+        Some(Command::OverText(command)) => run_over_text(th, alloc, command, src, sink, gate),
         Some(
             Command::Levels {
                 qubits,

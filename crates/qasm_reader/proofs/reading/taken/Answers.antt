@@ -1,19 +1,24 @@
-use Rattle.std.proofs.Common.{◌∙◌, sym, subst}
+use Rattle.std.proofs.Common.{◌≡◌, ◌∙◌, List, Option, ap, sym, subst}
+use Rattle.qasm_reader.specs.declared.statements.Statement.{Statement as CodeStatement}
+use Rattle.qasm_reader.specs.Lexemes.{Lexeme}
+use Rattle.qasm_reader.specs.Forms.{Form, HasForm}
+use Rattle.qasm_reader.specs.Parse.{form_of}
+use Rattle.qasm_reader.specs.View.{lexemes, form, statement_of, state}
 use Rattle.std.specs.Prelude.{option_map}
-use Rattle.qasm_reader.specs.Forms.{HasForm}
-use Rattle.qasm_reader.specs.View.{lexemes, form, state}
 use Rattle.qasm_reader.proofs.Grammar.{has_form}
 use Rattle.qasm_reader.proofs.Registers.{inside_is}
-use Rattle.qasm_reader.proofs.Takeable.{unrefused, takeable}
+use Rattle.qasm_reader.proofs.Takeable.{table_sound, short_before, takeable}
 use Rattle.qasm_reader.proofs.reading.taken.Goals as goal
+
+-- a statement has the form that is computed from its lexemes
+has : (p : CodeStatement) (ws : List Lexeme) → lexemes p.lexemes.now ≡ ws → option_map form p.form ≡ form_of ws → HasForm (lexemes p.lexemes.now) (option_map form p.form)
+has p ws same found = subst (λ (o : Option Form). HasForm (lexemes p.lexemes.now) o) (sym (found ∙ ap form_of (sym same))) (has_form (lexemes p.lexemes.now))
 
 pub with_statement-requires-clause-fits : goal.with_statement-requires-clause-fits
 with_statement-requires-clause-fits c =
-    let ws = lexemes c.args.statement.now in
-    let found = option_map form c.in_ok-found.found in
-    takeable (state c.args.scan) ws found (subst (HasForm ws) (sym c.in_ok-found.ensures) (has_form ws))
-    (inside_is c.args.scan.qubits c.args.scan.registers.items c.args.scan.inside) (sym c.first_row.ensures ∙ c.in_default.is)
+    let p = c.in_ok-statement.statement in
+    takeable (state c.args.scan) (lexemes p.lexemes.now) (option_map form p.form) (has p (lexemes c.args.ws.now) (ap lexemes c.in_ok-statement.ensures.lexemes) c.in_ok-statement.ensures.form)
+    (inside_is c.args.scan.qubits c.args.scan.registers.items c.args.scan.inside) table_sound (sym c.first_row.ensures ∙ c.in_default.is)
 
 pub with_statement-requires-clause-short : goal.with_statement-requires-clause-short
-with_statement-requires-clause-short c =
-    (unrefused (state c.args.scan) (record { lexemes = lexemes c.args.statement.now; form = option_map form c.in_ok-found.found }) (sym c.first_row.ensures ∙ c.in_default.is)).short
+with_statement-requires-clause-short c = short_before (state c.args.scan) (statement_of c.in_ok-statement.statement) (sym c.first_row.ensures ∙ c.in_default.is)

@@ -16,6 +16,13 @@ returns-clause-one c = one_outcome
           let channel = c.circuits_have_one_channel.ensures.exists x.qubits small.some small.few x.gates small.fit in
           (c.one_channel_where_same.ensures x.qubits small.some small.few x.gates x.gates small.fit small.fit (built x.qubits (steps_of x.gates)) (built x.qubits (steps_of x.gates)) channel channel).0 (λ row column low below. refl);
     }
+    record {
+      bad = c.one_cut.ensures.bad;
+      place = c.one_halving.ensures.place;
+      never_none = c.one_halving.ensures.never_none;
+      never_bad = c.one_halving.ensures.never_bad;
+      none_never_bad = c.one_halving.ensures.none_never_bad;
+    }
     c.printed_once.ensures
 
 pub returns-clause-counted : goal.returns-clause-counted

@@ -83,7 +83,7 @@ returns c =
       no_t = c.in_ok-circuit.ensures.no_t;
       short = c.in_ok-circuit.ensures.short;
       of_left = of_left;
-      blocks = short;
+      blocks = omega (arith, short);
       letters = subst (λ (t : List (List ℕ)). IsWord n (length w) t) texts
           (subst (λ (k : ℕ). IsWord n k (letter_texts c.deref-4.result.now)) long_letters (subst (λ (k : ℕ). IsWord k (length c.deref-4.result.now) (letter_texts c.deref-4.result.now)) qubits is_word));
       shows = shows ∙ is;

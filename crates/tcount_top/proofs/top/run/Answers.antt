@@ -1,14 +1,14 @@
 use Rattle.std.proofs.Common.{refl, ap, subst}
 use Rattle.tcount_top.specs.declared.command.Command.{Command}
-use Rattle.tcount_top.specs.Words.{texts_of, Spell, IsSynth, IsLevels}
+use Rattle.tcount_top.specs.Words.{texts_of, Spell, SpellText, IsLevels}
 use Rattle.tcount_top.specs.Lines.{usage_line}
 use Rattle.tcount_top.proofs.Answering.{usage_answers, levels_answers}
 use Rattle.tcount_top.proofs.top.run.Goals as goal
 
-pub returns-in-Some-Synth-clause-answers : goal.returns-in-Some-Synth-clause-answers
-returns-in-Some-Synth-clause-answers g c =
+pub returns-in-Some-OverText-clause-answers : goal.returns-in-Some-OverText-clause-answers
+returns-in-Some-OverText-clause-answers g c =
     let words = texts_of c.args.words.now in
-    let is : IsSynth words c.in-Some-Synth.bound c.in-Some-Synth.workers = subst (λ (x : Command). Spell words x) c.in-Some-Synth.field-0-is c.in-Some-Synth.ensures.some in c.run_synth.ensures.answers words is
+    let is : SpellText words c.in-Some-OverText.command = subst (λ (x : Command). Spell words x) c.in-Some-OverText.field-0-is c.in-Some-OverText.ensures.some in c.run_over_text.ensures.answers words is
 
 pub returns-in-Some-Levels-clause-answers : goal.returns-in-Some-Levels-clause-answers
 returns-in-Some-Levels-clause-answers g c =
