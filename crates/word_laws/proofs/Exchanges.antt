@@ -17,7 +17,8 @@ use Rattle.coset_label.specs.Cosets.{SameCosetWords}
 use Rattle.coset_label.proofs.OneCoset.{same_coset_of_same}
 use Rattle.word_laws.proofs.Spans.{code_swap}
 use Rattle.word_laws.proofs.Sparse.{word_channel-front, front_row}
-use Rattle.word_laws.proofs.Rotations.{partner_sign, commuting, mixed, rotated_agree}
+use Rattle.channel_rep.proofs.Independent.{commuting_row, mixed_row}
+use Rattle.word_laws.proofs.Rotations.{partner_sign, rotated_agree}
 use Rattle.word_laws.proofs.Commuting.{commute-product, both_signs}
 
 -- ---- signs
@@ -56,27 +57,27 @@ module _ (n p q : ℕ) (e : commute n p q ≡ true) where
   rotations_exchange m row column = elim (cases_Bool (commute n p row)) [
     | inl cp ↦ elim (cases_Bool (commute n q row)) [
       | inl cq ↦
-          commuting n false p (rotated n false q m) row column cp ∙ ap (surd_times root2_surd) (commuting n false q m row column cq)
-          ∙ sym (commuting n false q (rotated n false p m) row column cq ∙ ap (surd_times root2_surd) (commuting n false p m row column cp))
+          commuting_row n false p (rotated n false q m) row column cp ∙ ap (surd_times root2_surd) (commuting_row n false q m row column cq)
+          ∙ sym (commuting_row n false q (rotated n false p m) row column cq ∙ ap (surd_times root2_surd) (commuting_row n false p m row column cp))
       | inr aq ↦
-          commuting n false p (rotated n false q m) row column cp ∙ ap (surd_times root2_surd) (mixed n false q m row column aq)
+          commuting_row n false p (rotated n false q m) row column cp ∙ ap (surd_times root2_surd) (mixed_row n false q m row column aq)
           ∙ root2_sum (partner_sign n false q row) (m row column) (m (product_code q row) column)
-          ∙ sym (mixed n false q (rotated n false p m) row column aq
-          ∙ (λ i. surd_plus (commuting n false p m row column cp i) (signed (partner_sign n false q row) (commuting n false p m (product_code q row) column (p_at cp) i))))
+          ∙ sym (mixed_row n false q (rotated n false p m) row column aq
+          ∙ (λ i. surd_plus (commuting_row n false p m row column cp i) (signed (partner_sign n false q row) (commuting_row n false p m (product_code q row) column (p_at cp) i))))
     ]
     | inr anti ↦ elim (cases_Bool (commute n q row)) [
       | inl cq ↦
-          mixed n false p (rotated n false q m) row column anti
-          ∙ (λ i. surd_plus (commuting n false q m row column cq i) (signed (partner_sign n false p row) (commuting n false q m (product_code p row) column (q_at cq) i)))
+          mixed_row n false p (rotated n false q m) row column anti
+          ∙ (λ i. surd_plus (commuting_row n false q m row column cq i) (signed (partner_sign n false p row) (commuting_row n false q m (product_code p row) column (q_at cq) i)))
           ∙ sym (root2_sum (partner_sign n false p row) (m row column) (m (product_code p row) column))
-          ∙ sym (commuting n false q (rotated n false p m) row column cq ∙ ap (surd_times root2_surd) (mixed n false p m row column anti))
+          ∙ sym (commuting_row n false q (rotated n false p m) row column cq ∙ ap (surd_times root2_surd) (mixed_row n false p m row column anti))
       | inr aq ↦
-          mixed n false p (rotated n false q m) row column anti
-          ∙ (λ i. surd_plus (mixed n false q m row column aq i) (signed (partner_sign n false p row) (mixed n false q m (product_code p row) column (q_not aq) i)))
+          mixed_row n false p (rotated n false q m) row column anti
+          ∙ (λ i. surd_plus (mixed_row n false q m row column aq i) (signed (partner_sign n false p row) (mixed_row n false q m (product_code p row) column (q_not aq) i)))
           ∙ four_terms (partner_sign n false p row) (partner_sign n false q (product_code p row)) (partner_sign n false q row) (partner_sign n false p (product_code q row))
           (m row column) (m (product_code p row) column) (m (product_code q row) column) (m (product_code q (product_code p row)) column) (signs anti aq)
-          ∙ sym (mixed n false q (rotated n false p m) row column aq
-          ∙ (λ i. surd_plus (mixed n false p m row column anti i) (signed (partner_sign n false q row) (mixed n false p m (product_code q row) column (p_not anti) i)))
+          ∙ sym (mixed_row n false q (rotated n false p m) row column aq
+          ∙ (λ i. surd_plus (mixed_row n false p m row column anti i) (signed (partner_sign n false q row) (mixed_row n false p m (product_code q row) column (p_not anti) i)))
           ∙ ap (λ c. surd_plus (surd_plus (m row column) (signed (partner_sign n false p row) (m (product_code p row) column)))
           (signed (partner_sign n false q row) (surd_plus (m (product_code q row) column) (signed (partner_sign n false p (product_code q row)) (m c column))))) (code_swap p q row))
     ]

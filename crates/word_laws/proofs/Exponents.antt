@@ -1,63 +1,39 @@
 -- One letter changes the least exponent by at most one, and the number of divisions tells by how much.
-use Rattle.std.proofs.Common.{◌≡◌, ◌≢◌, ◌↔◌, ℕ, suc, ◌+◌, ◌-◌, ◌^◌, ◌<◌, ◌≤◌, Bool, true, false, not, ap, sym, ◌∙◌, arith, inl, inr}
+use Rattle.std.proofs.Common.{◌≡◌, ◌≢◌, ◌↔◌, ℕ, suc, ◌+◌, ◌-◌, ◌^◌, ◌<◌, ◌≤◌, Bool, true, false, ap, sym, ◌∙◌, arith, inl, inr}
 use Rattle.std.proofs.lemmas.Bool.{cases_eq, cases_lt}
-use Rattle.ring_laws.specs.Ring.{power}
-use Rattle.ring_laws.specs.Matrix.{product}
 use Rattle.ring_laws.proofs.Ring.{mul_left_comm}
-use Rattle.tc_ring.specs.Surds.{surds, surd_times, root2_surd}
-use Rattle.tc_ring.proofs.Surds.{surds_laws, surd_times_assoc, cancel_root2_surd, cancel_root2_power}
-use Rattle.channel_rep.specs.Tables.{SurdTable, ScaledTable, stepped, SameTable, rotation_table}
+use Rattle.tc_ring.specs.Surds.{Surd, surd_times, root2_surd}
+use Rattle.tc_ring.proofs.Surds.{surds_laws, cancel_root2_power}
+use Rattle.channel_rep.specs.Products.{table_product}
+use Rattle.channel_rep.specs.Tables.{SurdTable, ScaledTable, stepped, SameTable}
 use Rattle.channel_rep.specs.Rows.{rotated}
-use Rattle.channel_rep.proofs.Built.{root2_to, root2_to-add}
+use Rattle.channel_rep.proofs.Built.{root2_to, root2_to-add, same_table_sym, same_table_trans}
 use Rattle.channel_rep.proofs.Least.{odd_has_least}
+use Rattle.channel_rep.proofs.Products.{tables_right}
 use Rattle.channel_rep.proofs.Rules.{rotation_rule}
-use Rattle.coset_label.specs.Labels.{HasLeastExponent}
+use Rattle.channel_rep.proofs.Undone.{turned}
+use Rattle.coset_label.specs.Labels.{HasOddEntry, HasLeastExponent}
+use Rattle.coset_label.proofs.Exponents.{least_of_coset}
+use Rattle.coset_label.proofs.OneCoset.{same_coset_of_same}
 use Rattle.word_laws.specs.Divisions.{IsMultiple, IsDivisionCount, letter_step}
-use Rattle.word_laws.proofs.Rotations.{rotated_factor, rotated_agree, undone}
+use Rattle.word_laws.proofs.Rotations.{other_way, undone}
 use Rattle.word_laws.proofs.Parities.{AllEven, even_or_odd, odd_quarter}
 use Rattle.word_laws.proofs.Multiples.{over_root2, halves, root2_to-suc, root2_to-two}
 
--- ---- the least exponent
--- a rotation, or its inverse, times a table
-abbrev behind : ℕ → Bool → ℕ → ScaledTable → ScaledTable
-behind n inverse p m = record { table = product surds (4 ^ n) (rotation_table n inverse p) m.table; exponent = 1 + m.exponent }
-
-module _ (n : ℕ) (inverse : Bool) (p : ℕ) (lp : p < 4 ^ n) (d : p ≢ 0) (a b : ScaledTable) (same : SameTable n b (behind n inverse p a)) where
-  -- it rises by at most one
+module _ (n : ℕ) (inverse : Bool) (p : ℕ) (lp : p < 4 ^ n) (d : p ≢ 0) (a b : ScaledTable) (same : SameTable n b (table_product n (turned n inverse p) a)) where
+  -- ---- by at most one
   rise : HasLeastExponent n b → b.exponent ≤ a.exponent + 1
-  rise least = elim least [
-    | inl none ↦ omega arith
-    | inr odd ↦
-        let low = odd_has_least (1 + a.exponent) b.exponent ((behind n inverse p a).table odd.row odd.column) (b.table odd.row odd.column) odd.odd (sym (same odd.row odd.column odd.row_below odd.column_below)) in
-        omega (arith, low)
-  ]
+  rise least = let low = least_of_coset n b (table_product n (turned n inverse p) a) least (same_coset_of_same n _ _ same) in omega (arith, low)
 
-  -- the table before, from the one behind
-  back_table : (row column : ℕ) → row < 4 ^ n → column < 4 ^ n → surd_times (root2_to a.exponent) (rotated n (not inverse) p b.table row column) ≡ surd_times (root2_to (b.exponent + 1)) (a.table row column)
-  unfolding power
-  back_table row column l h =
-      cancel_root2_surd _ _
-      (sym (surd_times_assoc root2_surd (root2_to a.exponent) (rotated n (not inverse) p b.table row column))
-      ∙ ap (λ k. surd_times (root2_to k) (rotated n (not inverse) p b.table row column)) first
-      ∙ rotated_factor n (not inverse) p (root2_to (1 + a.exponent)) b.table row column
-      ∙ rotated_agree n (not inverse) p lp _ _ row column l (λ r k. same r column k h ∙ ap (surd_times (root2_to b.exponent)) (rotation_rule n inverse p lp d a.table r column k))
-      ∙ sym (rotated_factor n (not inverse) p (root2_to b.exponent) (rotated n inverse p a.table) row column)
-      ∙ ap (surd_times (root2_to b.exponent)) (undone n inverse p a.table row column)
-      ∙ mul_left_comm surds_laws (root2_to b.exponent) root2_surd (surd_times root2_surd (a.table row column))
-      ∙ ap (surd_times root2_surd) (mul_left_comm surds_laws (root2_to b.exponent) root2_surd (a.table row column) ∙ sym (surd_times_assoc root2_surd (root2_to b.exponent) (a.table row column)) ∙ ap (λ k. surd_times (root2_to k) (a.table row column)) one))
-    where
-      one : suc b.exponent ≡ b.exponent + 1
-      one = omega arith
+  -- the table before is the one behind with the letter undone
+  before : SameTable n a (table_product n (other_way n inverse p) b)
+  before =
+      same_table_trans n a (table_product n (other_way n inverse p) (table_product n (turned n inverse p) a)) _
+      (same_table_sym n _ a (undone n inverse p lp d a))
+      (tables_right n (other_way n inverse p) (table_product n (turned n inverse p) a) b (same_table_sym n b _ same))
 
-      first : suc a.exponent ≡ 1 + a.exponent
-      first = omega arith
-
-  -- and falls by at most one
   fall : HasLeastExponent n a → a.exponent ≤ b.exponent + 1
-  fall least = elim least [
-    | inl none ↦ omega arith
-    | inr odd ↦ odd_has_least (b.exponent + 1) a.exponent (rotated n (not inverse) p b.table odd.row odd.column) (a.table odd.row odd.column) odd.odd (back_table odd.row odd.column odd.row_below odd.column_below)
-  ]
+  fall least = let low = least_of_coset n a (table_product n (other_way n inverse p) b) least (same_coset_of_same n _ _ before) in omega (arith, low)
 
   -- ---- by the number of divisions
   -- the entries behind, over their exponent, are those of the rotation over one power more than before
@@ -100,12 +76,12 @@ module _ (n : ℕ) (inverse : Bool) (p : ℕ) (lp : p < 4 ^ n) (d : p ≢ 0) (a 
             ∙ ap (surd_times (root2_to b.exponent)) (root2_to-add (count + 1) over (b.table row column))
 
     exponent_is : HasLeastExponent n a → HasLeastExponent n b → b.exponent ≡ a.exponent + 1 - count
-    exponent_is before after = elim (cases_lt count 2) [
+    exponent_is least after = elim (cases_lt count 2) [
       | inl few ↦ elim (cases_lt (b.exponent + count) (a.exponent + 1)) [
         | inl less ↦ absurd (is.no_more few (once_more less))
         | inr more ↦ omega (arith, least_is_low after)
       ]
-      | inr two ↦ omega (arith, is.few, fall before, least_is_low after)
+      | inr two ↦ omega (arith, is.few, fall least, least_is_low after)
     ]
 
     -- ---- the exponent that this gives is the least one
@@ -129,13 +105,13 @@ module _ (n : ℕ) (inverse : Bool) (p : ℕ) (lp : p < 4 ^ n) (d : p ≢ 0) (a 
     )
 
     exponent_is_least : HasLeastExponent n a → b.exponent ≡ a.exponent + 1 - count → HasLeastExponent n b
-    exponent_is_least before e = elim (cases_eq b.exponent 0) [
+    exponent_is_least least e = elim (cases_eq b.exponent 0) [
       | inl none ↦ inl none
       | inr some ↦ elim (even_or_odd n b) [
         | inr odd ↦ inr odd
         | inl even ↦ elim (cases_lt count 2) [
           | inl few ↦ absurd (is.no_more few (even_once_more (omega arith) even))
-          | inr more ↦ inr (odd_quarter n inverse p lp a b (twice (omega (arith, is.few)) (omega arith)) (elim before [ inl none ↦ absurd (omega arith) | inr odd ↦ odd ]))
+          | inr more ↦ inr (odd_quarter n inverse p lp a b (twice (omega (arith, is.few)) (omega arith)) (elim least [ inl none ↦ absurd (omega arith) | inr odd ↦ odd ]))
         ]
       ]
     ]
@@ -145,7 +121,7 @@ module _ (n : ℕ) (inverse : Bool) (p : ℕ) (lp : p < 4 ^ n) (d : p ≢ 0) (a 
             sym (root2_to-two (b.table row column)) ∙ ap (λ k. surd_times (root2_to k) (b.table row column)) (sym two) ∙ table_is whole row column l h
 
 -- a letter is such a step
-one_step : (n : ℕ) (inverse : Bool) (p : ℕ) (a b : ScaledTable) → SameTable n b (stepped n (letter_step inverse p) a) → SameTable n b (behind n inverse p a)
+one_step : (n : ℕ) (inverse : Bool) (p : ℕ) (a b : ScaledTable) → SameTable n b (stepped n (letter_step inverse p) a) → SameTable n b (table_product n (turned n inverse p) a)
 one_step n true p a b same = same
 one_step n false p a b same = same
 

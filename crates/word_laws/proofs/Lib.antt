@@ -4,6 +4,7 @@ pub mod Rotations
 pub mod Parities
 pub mod Multiples
 pub mod Exponents
+pub mod Norms
 pub mod Bits
 pub mod Commuting
 pub mod Exchanges

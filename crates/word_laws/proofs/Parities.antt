@@ -11,7 +11,8 @@ use Rattle.channel_rep.specs.Tables.{SurdTable, ScaledTable, signed}
 use Rattle.channel_rep.specs.Rows.{rotated}
 use Rattle.coset_label.specs.Labels.{HasOddEntry}
 use Rattle.word_laws.specs.Parities.{parity, WholesAgree, PartsAgree, CommutingEven}
-use Rattle.word_laws.proofs.Rotations.{partner_sign, commuting, mixed, mixed_partner}
+use Rattle.channel_rep.proofs.Independent.{commuting_row, mixed_row}
+use Rattle.word_laws.proofs.Rotations.{partner_sign, mixed_partner}
 
 -- all whole parts are even
 abbrev pub AllEven : ℕ → SurdTable → Type 0
@@ -71,12 +72,12 @@ module _ (n : ℕ) (inverse : Bool) (p : ℕ) (m : SurdTable) where
   even_where_agree = (there, back)
     where
       there : AllEven n (rotated n inverse p m) → WholesAgree n p m
-      there even row column l h e = (mixed_whole (partner_sign n inverse p row) (m row column) (m (product_code p row) column) _ (mixed n inverse p m row column e)).0 (even row column l h)
+      there even row column l h e = (mixed_whole (partner_sign n inverse p row) (m row column) (m (product_code p row) column) _ (mixed_row n inverse p m row column e)).0 (even row column l h)
 
       back : WholesAgree n p m → AllEven n (rotated n inverse p m)
       back agree row column l h = elim (cases_Bool (commute n p row)) [
-        | inl e ↦ root2_whole (m row column) _ (commuting n inverse p m row column e)
-        | inr e ↦ (mixed_whole (partner_sign n inverse p row) (m row column) (m (product_code p row) column) _ (mixed n inverse p m row column e)).1 (agree row column l h e)
+        | inl e ↦ root2_whole (m row column) _ (commuting_row n inverse p m row column e)
+        | inr e ↦ (mixed_whole (partner_sign n inverse p row) (m row column) (m (product_code p row) column) _ (mixed_row n inverse p m row column e)).1 (agree row column l h e)
       ]
 
   -- and what is left over √2 has even ones exactly where the whole parts before are even in the rows that commute, and the parts of
@@ -91,19 +92,19 @@ module _ (n : ℕ) (inverse : Bool) (p : ℕ) (m : SurdTable) where
       where
         wholes : AllEven n half → CommutingEven n p m
         wholes even row column l h e =
-            sym (ap parity (half_whole row column l h ∙ root2_part (m row column) _ (commuting n inverse p m row column e))) ∙ even row column l h
+            sym (ap parity (half_whole row column l h ∙ root2_part (m row column) _ (commuting_row n inverse p m row column e))) ∙ even row column l h
 
         parts : AllEven n half → PartsAgree n p m
         parts even row column l h e =
-            (mixed_part (partner_sign n inverse p row) (m row column) (m (product_code p row) column) _ (mixed n inverse p m row column e)).0
+            (mixed_part (partner_sign n inverse p row) (m row column) (m (product_code p row) column) _ (mixed_row n inverse p m row column e)).0
             (sym (ap parity (half_whole row column l h)) ∙ even row column l h)
 
         back : CommutingEven n p m → PartsAgree n p m → AllEven n half
         back wholes parts row column l h = elim (cases_Bool (commute n p row)) [
-          | inl e ↦ ap parity (half_whole row column l h ∙ root2_part (m row column) _ (commuting n inverse p m row column e)) ∙ wholes row column l h e
+          | inl e ↦ ap parity (half_whole row column l h ∙ root2_part (m row column) _ (commuting_row n inverse p m row column e)) ∙ wholes row column l h e
           | inr e ↦
               ap parity (half_whole row column l h)
-              ∙ (mixed_part (partner_sign n inverse p row) (m row column) (m (product_code p row) column) _ (mixed n inverse p m row column e)).1 (parts row column l h e)
+              ∙ (mixed_part (partner_sign n inverse p row) (m row column) (m (product_code p row) column) _ (mixed_row n inverse p m row column e)).1 (parts row column l h e)
         ]
 
 -- ---- never three times
@@ -124,13 +125,13 @@ pub odd_quarter : (n : ℕ) (inverse : Bool) (p : ℕ) → p < 4 ^ n → (m quar
 odd_quarter n inverse p lp m quarter is odd = elim (cases_Bool (commute n p odd.row)) [
   | inl e ↦
       absurd (odd_is_no_multiple (quarter.table odd.row odd.column) (m.table odd.row odd.column) odd.odd
-      (cancel_root2_surd _ _ (is odd.row odd.column odd.row_below odd.column_below ∙ commuting n inverse p m.table odd.row odd.column e)))
+      (cancel_root2_surd _ _ (is odd.row odd.column odd.row_below odd.column_below ∙ commuting_row n inverse p m.table odd.row odd.column e)))
   | inr e ↦
       let other = product_code-lt n p odd.row lp odd.row_below in
       elim (
       one_of_two (partner_sign n inverse p odd.row) (m.table odd.row odd.column) (m.table (product_code p odd.row) odd.column)
       (quarter.table odd.row odd.column) (quarter.table (product_code p odd.row) odd.column) odd.odd
-      (whole_twice _ _ (is odd.row odd.column odd.row_below odd.column_below ∙ mixed n inverse p m.table odd.row odd.column e))
+      (whole_twice _ _ (is odd.row odd.column odd.row_below odd.column_below ∙ mixed_row n inverse p m.table odd.row odd.column e))
       (whole_twice _ _ (is (product_code p odd.row) odd.column other odd.column_below ∙ mixed_partner n inverse p m.table odd.row odd.column e))
       ) [
         | inl h ↦ record { row = odd.row; column = odd.column; row_below = odd.row_below; column_below = odd.column_below; odd = h }

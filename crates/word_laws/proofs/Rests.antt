@@ -9,9 +9,10 @@ use Rattle.tc_ring.proofs.Surds.{surds_laws, surd_times_assoc, cancel_root2_powe
 use Rattle.channel_rep.specs.Tables.{ScaledTable, Step, by_rotation, by_inverse_rotation, stepped, SameTable, rotation_table, IsCircuitChannel}
 use Rattle.channel_rep.specs.Rows.{rotated}
 use Rattle.channel_rep.specs.Words.{IsWord}
-use Rattle.channel_rep.proofs.Built.{root2_to, same_step, same_table_sym, same_table_trans}
+use Rattle.channel_rep.specs.Products.{table_product, table_of_step}
+use Rattle.channel_rep.proofs.Built.{root2_to, same_table_sym, same_table_trans}
+use Rattle.channel_rep.proofs.Products.{same_of, tables_right, tables_assoc, identity-table}
 use Rattle.channel_rep.proofs.Least.{odd_has_least}
-use Rattle.channel_rep.proofs.Rules.{rotation_rule}
 use Rattle.channel_rep.proofs.OneUnit.{one_unit_to}
 use Rattle.coset_label.specs.Words.{word_channel}
 use Rattle.coset_label.specs.Cosets.{SameCoset, IsSignedPermutationTable, DiffersByPermutation}
@@ -21,42 +22,11 @@ use Rattle.coset_label.proofs.WordChannels.{word_circuit}
 use Rattle.channel_rep.proofs.Independent.{circuit_independent}
 use Rattle.word_laws.specs.Rests.{taken_off}
 use Rattle.word_laws.proofs.Sparse.{word_channel-front}
-use Rattle.word_laws.proofs.Rotations.{rotated_agree, undone}
-
--- 2 times a table, over √2 twice
-both_powers : (k : ℕ) (y : Surd) → surd_times (root2_to k) (surd_times root2_surd (surd_times root2_surd y)) ≡ surd_times (root2_to (1 + (1 + k))) y
-unfolding power
-both_powers k y =
-    mul_left_comm surds_laws (root2_to k) root2_surd (surd_times root2_surd y)
-    ∙ ap (surd_times root2_surd) (mul_left_comm surds_laws (root2_to k) root2_surd y ∙ sym (surd_times_assoc root2_surd (root2_to k) y))
-    ∙ sym (surd_times_assoc root2_surd (surd_times root2_surd (root2_to k)) y)
-    ∙ ap (λ j. surd_times (root2_to j) y) two
-  where
-    two : suc (suc k) ≡ 1 + (1 + k)
-    two = omega arith
-
-module _ (n p : ℕ) (lp : p < 4 ^ n) (d : p ≢ 0) (m : ScaledTable) where
-  -- a rotation and then its inverse
-  off_again : SameTable n (stepped n (by_inverse_rotation p) (stepped n (by_rotation p) m)) m
-  off_again r c l h =
-      ap (surd_times (root2_to m.exponent))
-      (rotation_rule n true p lp d (product surds (4 ^ n) (rotation_table n false p) m.table) r c l
-      ∙ rotated_agree n true p lp (product surds (4 ^ n) (rotation_table n false p) m.table) (rotated n false p m.table) r c l (λ k j. rotation_rule n false p lp d m.table k c j)
-      ∙ undone n false p m.table r c)
-      ∙ both_powers m.exponent (m.table r c)
-
-  -- and the other way round
-  on_again : SameTable n (stepped n (by_rotation p) (stepped n (by_inverse_rotation p) m)) m
-  on_again r c l h =
-      ap (surd_times (root2_to m.exponent))
-      (rotation_rule n false p lp d (product surds (4 ^ n) (rotation_table n true p) m.table) r c l
-      ∙ rotated_agree n false p lp (product surds (4 ^ n) (rotation_table n true p) m.table) (rotated n true p m.table) r c l (λ k j. rotation_rule n true p lp d m.table k c j)
-      ∙ undone n true p m.table r c)
-      ∙ both_powers m.exponent (m.table r c)
+use Rattle.word_laws.proofs.Rotations.{undone}
 
 -- a step keeps tables the same
 step_same : (n : ℕ) (s : Step) (a b : ScaledTable) → SameTable n a b → SameTable n (stepped n s a) (stepped n s b)
-step_same n s a b h = same_step n s a b (stepped n s a) h refl (λ r c l m. refl)
+step_same n s a b h = tables_right n (table_of_step n s) a b h
 
 -- and so does a word's inverse
 taken_same : (n : ℕ) (word : List ℕ) (a b : ScaledTable) → SameTable n a b → SameTable n (taken_off n word a) (taken_off n word b)
@@ -79,7 +49,7 @@ unfolding word_on
 taken_word n [] is m = λ r c l h. refl
 taken_word n (p ∷ word) is m =
     same_table_trans n _ (taken_off n word (word_on n word m)) _
-    (taken_same n word _ (word_on n word m) (off_again n p is.0.0 is.0.1 (word_on n word m)))
+    (taken_same n word _ (word_on n word m) (undone n false p is.0.0 is.0.1 (word_on n word m)))
     (taken_word n word is.1 m)
 
 -- and the other way round
@@ -90,25 +60,17 @@ word_taken n (p ∷ word) is m =
     let off = stepped n (by_inverse_rotation p) m in
     same_table_trans n _ (stepped n (by_rotation p) off) _
     (step_same n (by_rotation p) (word_on n word (taken_off n word off)) off (word_taken n word is.1 off))
-    (on_again n p is.0.0 is.0.1 m)
-
--- a table times another
-abbrev behind : ℕ → ScaledTable → ScaledTable → ScaledTable
-behind n a b = record { table = product surds (4 ^ n) a.table b.table; exponent = a.exponent + b.exponent }
-
--- tables that agree are the same
-agree_same : (n : ℕ) (a b : ScaledTable) → a.exponent ≡ b.exponent → Agree surds (4 ^ n) a.table b.table → SameTable n a b
-agree_same n a b e h r c l m = λ i. surd_times (root2_to (sym e i)) (h r c l m i)
+    (undone n true p is.0.0 is.0.1 m)
 
 -- a word before a table is the word's channel times it
-word_is : (n : ℕ) (word : List ℕ) (m : ScaledTable) → SameTable n (word_on n word m) (behind n (word_channel n word) m)
+word_is : (n : ℕ) (word : List ℕ) (m : ScaledTable) → SameTable n (word_on n word m) (table_product n (word_channel n word) m)
 unfolding word_on
-word_is n [] m = agree_same n m (behind n (word_channel n []) m) (omega arith) (λ r c l h. sym (identity-product surds_laws (4 ^ n) m.table r c l))
+word_is n [] m = same_table_sym n _ m (identity-table n m)
 word_is n (p ∷ word) m =
-    same_table_trans n _ (stepped n (by_rotation p) (behind n (word_channel n word) m)) _
-    (step_same n (by_rotation p) (word_on n word m) (behind n (word_channel n word) m) (word_is n word m))
-    (subst (λ w. SameTable n (stepped n (by_rotation p) (behind n (word_channel n word) m)) (behind n w m)) (sym (word_channel-front n p word))
-    (agree_same n _ _ (omega arith) (λ r c l h. sym (product_assoc surds_laws (4 ^ n) (4 ^ n) (rotation_table n false p) (word_channel n word).table m.table r c))))
+    same_table_trans n _ (stepped n (by_rotation p) (table_product n (word_channel n word) m)) _
+    (step_same n (by_rotation p) (word_on n word m) (table_product n (word_channel n word) m) (word_is n word m))
+    (subst (λ w. SameTable n (stepped n (by_rotation p) (table_product n (word_channel n word) m)) (table_product n w m)) (sym (word_channel-front n p word))
+    (same_table_sym n _ _ (tables_assoc n (table_of_step n (by_rotation p)) (word_channel n word) m)))
 
 module _ (n : ℕ) (some : 0 < n) (few : n ≤ 3) (word : List ℕ) (is : IsWord n word) (m : ScaledTable) (circuit : IsCircuitChannel n m) (rest : ScaledTable) (same : SameTable n rest (taken_off n word m)) where
   -- a rest that is a signed permutation means one coset
@@ -119,8 +81,8 @@ module _ (n : ℕ) (some : 0 < n) (few : n ≤ 3) (word : List ℕ) (is : IsWord
       whole =
           same_table_trans n m (word_on n word (taken_off n word m)) _ (same_table_sym n _ _ (word_taken n word is m))
           (same_table_trans n _ (word_on n word rest) _ (word_same n word (taken_off n word m) rest (same_table_sym n _ _ same))
-          (same_table_trans n _ (behind n (word_channel n word) rest) _ (word_is n word rest)
-          (agree_same n _ _ (omega (arith, none)) (λ r c l h. refl))))
+          (same_table_trans n _ (table_product n (word_channel n word) rest) _ (word_is n word rest)
+          (same_of n _ _ (omega (arith, none)) (λ r c l h. refl))))
 
   -- and one coset means that the rest, with the least exponent, is one
   pub rest_of_coset : HasLeastExponent n rest → SameCoset n m (word_channel n word) → (rest.exponent ≡ 0) × IsSignedPermutationTable n rest.table
@@ -137,9 +99,9 @@ module _ (n : ℕ) (some : 0 < n) (few : n ≤ 3) (word : List ℕ) (is : IsWord
           same_table_trans n rest (taken_off n word m) _ same
           (same_table_trans n _ (taken_off n word (word_on n word permutation)) _
           (taken_same n word m (word_on n word permutation)
-          (same_table_trans n m (behind n (word_channel n word) permutation) _
+          (same_table_trans n m (table_product n (word_channel n word) permutation) _
           (same_table_trans n m (record { table = product surds (4 ^ n) (word_channel n word).table differs.permutation; exponent = (word_channel n word).exponent }) _ differs.product_is
-          (agree_same n _ _ (omega arith) (λ r c l h. refl)))
+          (same_of n _ _ (omega arith) (λ r c l h. refl)))
           (same_table_sym n _ _ (word_is n word permutation))))
           (taken_word n word is permutation))
 

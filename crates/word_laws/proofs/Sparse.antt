@@ -11,21 +11,18 @@ use Rattle.pauli_basis.proofs.Products.{product_code-lt}
 use Rattle.channel_rep.specs.Tables.{SurdTable, ScaledTable, Step, by_rotation, stepped, built_on, built, IsBuiltOf, signed, turned_over}
 use Rattle.channel_rep.specs.Rows.{rotated}
 use Rattle.channel_rep.specs.Words.{IsWord}
+use Rattle.channel_rep.specs.Products.{identity_table}
 use Rattle.channel_rep.proofs.Built.{root2_to}
+use Rattle.channel_rep.proofs.Products.{built_on-append}
 use Rattle.channel_rep.proofs.Rules.{zero_at, rotation_rule}
 use Rattle.channel_rep.proofs.Signs.{signed-zero}
 use Rattle.coset_label.specs.Words.{word_steps, word_channel}
 use Rattle.word_laws.specs.Spans.{IsInSpan}
 use Rattle.word_laws.proofs.Spans.{span_closed, decide_span, code_both}
 
--- a step at the end is the last one made
-built_on-last : (n : ℕ) (m : ScaledTable) (steps : List Step) (s : Step) → built_on n m (steps ++ s ∷ []) ≡ stepped n s (built_on n m steps)
-built_on-last n m [] s = refl
-built_on-last n m (t ∷ steps) s = built_on-last n (stepped n t m) steps s
-
 -- one letter in front is one rotation more
 pub word_channel-front : (n p : ℕ) (word : List ℕ) → word_channel n (p ∷ word) ≡ stepped n (by_rotation p) (word_channel n word)
-word_channel-front n p word = built_on-last n (record { table = identity surds; exponent = 0 }) (word_steps word) (by_rotation p)
+word_channel-front n p word = built_on-append n (word_steps word) (by_rotation p ∷ []) identity_table
 
 -- a row of it, by the rule of rows
 pub front_row : (n p : ℕ) (word : List ℕ) → p < 4 ^ n → p ≢ 0 → (row column : ℕ) → row < 4 ^ n

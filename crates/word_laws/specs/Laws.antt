@@ -52,6 +52,11 @@ abbrev pub DivisionsTellExponents : Type 0
 DivisionsTellExponents = (n : ℕ) (inverse : Bool) (p : ℕ) → p < 4 ^ n → p ≢ 0 → (a b : ScaledTable) → SameTable n b (stepped n (letter_step inverse p) a) → HasLeastExponent n a
     → (count : ℕ) → IsDivisionCount n (rotated n inverse p a.table) count → HasLeastExponent n b ↔ (b.exponent ≡ a.exponent + 1 - count)
 
+-- which of a circuit's channel they are not
+abbrev pub DivisionsStayBelow : Type 0
+DivisionsStayBelow = (n : ℕ) → 0 < n → n ≤ 3 → (inverse : Bool) (p : ℕ) → p < 4 ^ n → p ≢ 0 → (a : ScaledTable) → IsCircuitChannel n a
+    → (count : ℕ) → IsDivisionCount n (rotated n inverse p a.table) count → count ≤ a.exponent + 1
+
 -- rotations by letters that commute may be made in either order
 abbrev pub RotationsExchange : Type 0
 RotationsExchange = (n p q : ℕ) → commute n p q ≡ true → (m : SurdTable) (row column : ℕ) → rotated n false p (rotated n false q m) row column ≡ rotated n false q (rotated n false p m) row column

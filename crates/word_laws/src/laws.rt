@@ -1,7 +1,7 @@
 //! The facts on channels of words, letter by letter.
 //!
 //! Each of these functions does nothing. Its contract is the law, for a caller's proof to use.
-ghost use Rattle.word_laws.specs.Laws.{SpansAreSubspaces, ColumnsAreSparse, ColumnsShareBlocks, RotationsDivideOnce, RotationsDivideTwice, RotationsDivideNoMore, ExponentsStepByOne, DivisionsTellExponents, RotationsExchange, WordsExchange, RestsTellCosets};
+ghost use Rattle.word_laws.specs.Laws.{SpansAreSubspaces, ColumnsAreSparse, ColumnsShareBlocks, RotationsDivideOnce, RotationsDivideTwice, RotationsDivideNoMore, ExponentsStepByOne, DivisionsTellExponents, DivisionsStayBelow, RotationsExchange, WordsExchange, RestsTellCosets};
 
 /// The channel of a word is 0 outside the blocks of its letters' span, and columns that are other than 0 in one row lie in
 /// one block.
@@ -18,10 +18,12 @@ pub fn parities_tell_divisions()
     ensures no_more { RotationsDivideNoMore }
 {}
 
-/// A letter changes the least exponent by at most one, and by how much the number of divisions tells.
+/// A letter changes the least exponent by at most one, and by how much the number of divisions tells, which for circuits'
+/// channels is at most the exponent and 1.
 pub fn divisions_tell_exponents()
     ensures step { ExponentsStepByOne }
     ensures exponent { DivisionsTellExponents }
+    ensures below { DivisionsStayBelow }
 {}
 
 /// Neighbours that commute may change places in a word.
