@@ -1,6 +1,6 @@
 ghost use Rattle.std.specs.Prelude.{◌≡◌, ◌≢◌, IfOk};
 
-use crate::{Channel, ChannelGate, Conjugation};
+use crate::{Channel, ChannelGate, Conjugation, MOST_EXPONENT, laws};
 use pauli_basis::Pauli;
 use std::process::Abort;
 use std::test::Fail;
@@ -111,6 +111,27 @@ fn an_inverse_undoes_a_rotation(rt: HostRuntime) -> Result<(), Fail> {
             (63, 63, false),
         ],
     )
+}
+
+#[test]
+fn the_most_rotations_fit(rt: HostRuntime) -> Result<(), Fail> {
+    laws::channels_are_orthogonal();
+    // Eight of them are the identity, and so are 120: its cells are √2^120.
+    let z = pauli(1, 3)?;
+    let mut c = Channel::identity(rt.alloc(), 1)?;
+    while c.exponent() < MOST_EXPONENT {
+        c.left_rotation(z);
+    }
+    assert_eq!(rt; c.exponent(), 120);
+    for row in 0..4usize {
+        for col in 0..4usize {
+            let a = if row == col { 1 << 60 } else { 0 };
+            assert_eq!(rt; c.cell(row, col), Root2 { a, b: 0 }, "at {row}, {col}");
+        }
+    }
+    c.reduce();
+    assert_eq!(rt; c.exponent(), 0);
+    images(&rt, &c, &[(1, 1, false), (2, 2, false), (3, 3, false)])
 }
 
 #[test]
