@@ -3,7 +3,7 @@ use Rattle.channel_rep.specs.Cells.{most_exponent}
 use Rattle.channel_rep.proofs.tests.the_most_rotations_fit.Given as goal
 
 abbrev pub invariant-loop-z : goal.invariant-loop-z
-invariant-loop-z l = l.c.qubits ≡ 1
+invariant-loop-z g l = l.c.qubits ≡ 1
 
 abbrev pub decreases-loop-z : goal.decreases-loop-z
-decreases-loop-z l = most_exponent - l.c.exponent
+decreases-loop-z g l = most_exponent - l.c.exponent
