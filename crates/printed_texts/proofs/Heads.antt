@@ -9,7 +9,7 @@ use Rattle.qasm_reader.specs.Lexemes.{Lexeme, is_reserved, cut_behind}
 use Rattle.qasm_reader.specs.Forms.{Include, Qreg, IsForm}
 use Rattle.qasm_reader.specs.Limits.{most_qubits}
 use Rattle.qasm_reader.specs.State.{State, start, value, after}
-use Rattle.qasm_reader.specs.Within.{IsTaken, IncludesAreTaken, RegistersAreTaken}
+use Rattle.qasm_reader.specs.Within.{MeetsNoRow, IncludesAreTaken, RegistersAreTaken}
 use Rattle.qasm_reader.specs.Read.{IsHeaded}
 use Rattle.printed_texts.proofs.Lexed.{lexeme, Lexed, weaker, token}
 use Rattle.printed_texts.proofs.Scanned.{Reaches, one_more}
@@ -58,7 +58,7 @@ unfolding is_reserved
 register_form n small at p last = (refl, (refl, (digit_is n small).0))
 
 -- no row applies to it
-register_taken : RegistersAreTaken → (n : ℕ) → 0 < n → n ≤ most_qubits → (at : ℕ) (p : Places) (last : ℕ) → IsTaken included (single (codes "qreg") n at p last) (Qreg (codes "q") ((48 + n) ∷ []))
+register_taken : RegistersAreTaken → (n : ℕ) → 0 < n → n ≤ most_qubits → (at : ℕ) (p : Places) (last : ℕ) → MeetsNoRow included (single (codes "qreg") n at p last) (Qreg (codes "q") ((48 + n) ∷ []))
 register_taken law n some few at p last =
     let small : n < 4 = omega arith in
     let size : value ((48 + n) ∷ []) ≡ n = (digit_is n small).1 in

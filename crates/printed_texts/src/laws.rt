@@ -11,7 +11,7 @@ use qasm_reader::statements_within_limits_are_taken;
 /// The print of a circuit reads as this circuit, on the same qubits and with the same gates in order: of every circuit on
 /// one to three qubits within the limits of a text, with every word.
 ///
-/// The limits are 44 T gates and 4,096 statements, which are the include, the register and 4,094 gates. The word stands in
+/// The limits are 120 T gates and 4,096 statements, which are the include, the register and 4,094 gates. The word stands in
 /// a comment, so its letters may be any texts without a line feed, as those of Pauli operators are. The call does nothing.
 pub fn printed_texts_read_back()
     ensures word { (n t : ℕ) (gates : List Gate) (letters : List (List ℕ)) → 0 < n → n ≤ most_qubits → IsCircuit n gates

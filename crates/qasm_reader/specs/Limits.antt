@@ -7,7 +7,7 @@ most_qubits = 3
 
 -- the most T gates, once all gates are written out
 abbrev pub most_t_gates : ℕ
-most_t_gates = 44
+most_t_gates = 120
 
 -- the most statements behind the header
 abbrev pub most_statements : ℕ

@@ -10,8 +10,8 @@ use Rattle.qasm_reader.specs.State.{Register, State, value, find_register, qubit
 use Rattle.qasm_reader.specs.Rows.{has_twins, row_of}
 
 -- behind this state no row applies to the lexemes, which have the form
-abbrev pub IsTaken : State → List Lexeme → Form → Type 0
-IsTaken s ws f = row_of s (record { lexemes = ws; form = Some f }) ≡ None
+abbrev pub MeetsNoRow : State → List Lexeme → Form → Type 0
+MeetsNoRow s ws f = row_of s (record { lexemes = ws; form = Some f }) ≡ None
 
 -- the argument has an index, and this is below the size of its register
 pub record IsIndexed (rs : List Register) (a : Argument) : Type 0 where
@@ -40,13 +40,13 @@ pub record IsNewGate (s : State) (g : Known) (args : List Argument) : Type 0 whe
 
 -- includes of the library are taken, behind few statements
 abbrev pub IncludesAreTaken : Type 0
-IncludesAreTaken = (s : State) (ws : List Lexeme) → IsForm ws (Include (codes "\"qelib1.inc\"")) → s.count < most_statements → IsTaken s ws (Include (codes "\"qelib1.inc\""))
+IncludesAreTaken = (s : State) (ws : List Lexeme) → IsForm ws (Include (codes "\"qelib1.inc\"")) → s.count < most_statements → MeetsNoRow s ws (Include (codes "\"qelib1.inc\""))
 
 -- registers of qubits within the limits are taken
 abbrev pub RegistersAreTaken : Type 0
-RegistersAreTaken = (s : State) (ws : List Lexeme) (name size : List ℕ) → IsForm ws (Qreg name size) → IsNewRegister s name size → IsTaken s ws (Qreg name size)
+RegistersAreTaken = (s : State) (ws : List Lexeme) (name size : List ℕ) → IsForm ws (Qreg name size) → IsNewRegister s name size → MeetsNoRow s ws (Qreg name size)
 
 -- known gates within the limits are taken
 abbrev pub GatesAreTaken : Type 0
 GatesAreTaken = (s : State) (ws : List Lexeme) (name : List ℕ) (args : List Argument) (g : Known) → IsForm ws (Apply name args) → s.known name ≡ Some g → IsNewGate s g args
-    → IsTaken s ws (Apply name args)
+    → MeetsNoRow s ws (Apply name args)

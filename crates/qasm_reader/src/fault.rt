@@ -24,7 +24,7 @@ pub enum ReadFault {
         /// | 6 | a register's size is 0, or an index isn't below its register's size |
         /// | 7 | two arguments of a gate name one qubit |
         /// | 8 | there are more than three qubits, or none |
-        /// | 9 | there are more than 44 T gates |
+        /// | 9 | there are more than 120 T gates |
         /// | 10 | there are more than 4,096 statements behind the header |
         /// | 11 | a statement is one of OpenQASM 2.0 that this reader leaves out |
         /// | 12 | a register's name was declared before, or qubits are declared behind a gate |

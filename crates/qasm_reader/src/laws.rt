@@ -19,7 +19,7 @@ pub fn one_reading()
     ensures refusal { (text : List ℕ) (n p m q : ℕ) → Refused text n p → Refused text m q → (n ≡ m) × (p ≡ q) }
 {}
 
-/// A circuit that a text reads as is small: it is on 1 to 3 qubits, each of its gates fits them, it has at most 44 T gates, and
+/// A circuit that a text reads as is small: it is on 1 to 3 qubits, each of its gates fits them, it has at most 120 T gates, and
 /// at most 18 gates for each of at most 4,096 statements.
 pub fn read_circuits_are_small()
     ensures some { (text : List ℕ) (c : Gates) → Reads text c → 0 < c.qubits }

@@ -4,7 +4,7 @@
 pub const MOST_QUBITS: u8 = 3;
 
 /// The most T gates of a text, once all gates are written out.
-pub const MOST_T_GATES: usize = 44;
+pub const MOST_T_GATES: usize = 120;
 
 /// The most statements of a text behind the header.
 pub const MOST_STATEMENTS: usize = 4096;

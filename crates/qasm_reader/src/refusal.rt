@@ -19,7 +19,7 @@ pub(crate) enum Refusal {
     SameQubit = 7,
     // There are more than three qubits, or none.
     Qubits = 8,
-    // There are more than 44 T gates.
+    // There are more than 120 T gates.
     TooManyT = 9,
     // There are more than 4,096 statements.
     TooLong = 10,

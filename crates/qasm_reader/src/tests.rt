@@ -334,10 +334,11 @@ fn texts_are_refused(rt: HostRuntime) {
 }
 
 // A line, how many times, and the number and the place of the refusal, or none.
-const LONG: [(&[u8], usize, Option<(u8, usize)>); 9] = [
+const LONG: [(&[u8], usize, Option<(u8, usize)>); 10] = [
+    (b"t q[0];\n", 45, None),
     (b"t q[0];\n", MOST_T_GATES, None),
-    (b"t q[0];\n", MOST_T_GATES + 1, Some((9, 377))),
-    (b"tdg q;\n", MOST_T_GATES + 1, Some((9, 333))),
+    (b"t q[0];\n", MOST_T_GATES + 1, Some((9, 985))),
+    (b"tdg q;\n", MOST_T_GATES + 1, Some((9, 865))),
     (b"h q[0];\n", MOST_STATEMENTS - 1, None),
     (b"h q[0];\n", MOST_STATEMENTS, Some((10, 32785))),
     (b"barrier q;", MOST_STATEMENTS, Some((10, 40975))),
