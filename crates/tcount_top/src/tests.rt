@@ -344,8 +344,7 @@ fn comparisons(rt: HostRuntime) -> Result<(), Fail> {
         ),
     ];
     for (text, status, bytes) in rows {
-        let (answered, written) =
-            answer(&rt, rt.alloc(), &["check"], text.as_bytes(), &OpenWay)?;
+        let (answered, written) = answer(&rt, rt.alloc(), &["check"], text.as_bytes(), &OpenWay)?;
         assert_eq!(rt; answered, status, "{text:?}");
         assert!(rt; written.as_slice() == bytes.as_bytes(), "{text:?}");
     }
@@ -369,7 +368,10 @@ fn many_h_gates(rt: HostRuntime) -> Result<(), Fail> {
         text.extend_from_slice(&behind)?;
         let (answered, written) = answer(&rt, rt.alloc(), &["check"], &text, &OpenWay)?;
         assert_eq!(rt; answered, status, "{first} and {second}");
-        assert!(rt; written.as_slice() == bytes.as_bytes(), "{first} and {second}");
+        assert!(rt;
+            written.as_slice() == bytes.as_bytes(),
+            "{first} and {second}"
+        );
     }
     for (spaces, bytes) in [(65536, "refused 16\n"), (65537, "refused 14\n")] {
         let text = repeated(rt.alloc(), "", " ", spaces)?;
