@@ -6,3 +6,4 @@ pub mod Answering
 pub mod Once
 pub mod OneOutcome
 pub mod OneAnswer
+pub mod Made

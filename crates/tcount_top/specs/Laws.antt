@@ -8,6 +8,7 @@ use Rattle.tcount_top.specs.declared.command.Command.{Command}
 use Rattle.tcount_top.specs.Words.{Spell}
 use Rattle.tcount_top.specs.Out.{Out, SynthOut, longest}
 use Rattle.tcount_top.specs.Printed.{IsPrinted}
+use Rattle.tcount_top.specs.Bench.{BenchOut}
 
 -- words are at most one command
 abbrev pub OneCommand : Type 0
@@ -30,3 +31,7 @@ LeastCountsExist = (text : List ℕ) (c : Gates) → Reads text c → (t : ℕ) 
 abbrev pub OneAnswerForOneMatrix : Type 0
 OneAnswerForOneMatrix = (bound : ℕ) (x y : List ℕ) → length x ≤ longest → length y ≤ longest → (c d : Gates) → Reads x c → Reads y d → c.qubits ≡ d.qubits → Same c.qubits c.gates d.gates
     → (s t : Status) (a b : List ℕ) → SynthOut bound x s a → SynthOut bound y t b → (s ≡ t) × (a ≡ b)
+
+-- the outcomes of `bench` for the same numbers have one status and the same bytes
+abbrev pub OneBenchOutcome : Type 0
+OneBenchOutcome = (n t seed bound : ℕ) (s u : Status) (a b : List ℕ) → BenchOut n t seed bound s a → BenchOut n t seed bound u b → (s ≡ u) × (a ≡ b)

@@ -1,7 +1,7 @@
 //! What holds of the outcomes.
 //!
 //! Each of these functions does nothing. Its contract is the law, for a caller's proof to use.
-ghost use Rattle.tcount_top.specs.Laws.{OneCommand, OneOutcome, PrintedOnce, LeastCountsExist, OneAnswerForOneMatrix};
+ghost use Rattle.tcount_top.specs.Laws.{OneCommand, OneOutcome, PrintedOnce, LeastCountsExist, OneBenchOutcome, OneAnswerForOneMatrix};
 
 use coset_label::laws::tables_are_classes;
 use level_laws::laws::{cosets_have_least_words, letters_come_off};
@@ -42,6 +42,13 @@ pub fn one_outcome()
     read_circuits_are_small();
     least_counts_are_lengths();
     printed_once();
+}
+
+/// The numbers of a made circuit and a bound have at most one outcome of `bench`.
+pub fn one_bench_outcome()
+    ensures { OneBenchOutcome }
+{
+    cosets_have_least_words();
 }
 
 /// Texts whose circuits on as many qubits have one matrix up to global phase, and so one channel, have for each bound one

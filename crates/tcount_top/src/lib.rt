@@ -7,15 +7,18 @@
 //! bytes over).
 #![tactic(auto)]
 
+mod bench;
 mod command;
 pub mod laws;
 mod lines;
 mod print;
+mod search;
 mod sizes;
 mod synth;
 #[cfg(test)]
 mod tests;
 pub mod top;
 
+pub use bench::bench_circuit;
 pub use print::printed;
 pub use top::{Status, run};

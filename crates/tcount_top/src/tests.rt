@@ -1,5 +1,6 @@
 use super::*;
 
+mod bench;
 mod gates;
 mod made;
 
