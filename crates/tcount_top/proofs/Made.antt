@@ -2,7 +2,7 @@
 use Rattle.std.proofs.Common.{◌≡◌, ℕ, ◌+◌, ◌<◌, ◌≤◌, List, [], ◌∷◌, ◌++◌, length, refl, ap, sym, ◌∙◌, subst, arith, add-one}
 use Rattle.std.proofs.lemmas.List.FromFn.{map-range_with_len_more}
 use Rattle.tc_circuit.specs.Circuit.{Gates}
-use Rattle.tc_circuit.specs.Model.{IsCircuit, IsLeastTCount, t_count_of}
+use Rattle.tc_circuit.specs.Model.{IsCircuit, t_count_of}
 use Rattle.tc_circuit.specs.declared.circuit.Gate.{Gate}
 use Rattle.channel_rep.specs.Tables.{ScaledTable, IsBuiltOf, built}
 use Rattle.coset_label.specs.Laws.{TablesAreClasses}
@@ -10,7 +10,6 @@ use Rattle.tc_bridge.specs.Steps.{steps_of}
 use Rattle.level_laws.specs.Levels.{IsLeastWord, NoneBelow}
 use Rattle.level_laws.specs.Laws.{LeastWordsAreUnique}
 use Rattle.meet_laws.specs.Laws.{TablesCompare, LeastCountsExist, LeastCountsAreLengths, CountsPassBounds}
-use Rattle.tcount_top.specs.declared.top.Status.{Status}
 use Rattle.tcount_top.specs.declared.top.Status.TheVariants.{Found, Above}
 use Rattle.tcount_top.specs.Printed.{word_texts}
 use Rattle.tcount_top.specs.Laws.{OneBenchOutcome}

@@ -37,10 +37,12 @@ fn answers<H: Threads + Sync>(
 {
     let one = bench(th, alloc, n, t, seed, bound, 1, &OpenWay)?;
     let two = bench(th, alloc, n, t, seed, bound, 2, &OpenWay)?;
-    Ok(one.0 == status
-        && one.1.as_slice() == line.as_bytes()
-        && two.0 == status
-        && two.1.as_slice() == line.as_bytes())
+    Ok(
+        one.0 == status
+            && one.1.as_slice() == line.as_bytes()
+            && two.0 == status
+            && two.1.as_slice() == line.as_bytes(),
+    )
 }
 
 #[test]

@@ -1,4 +1,4 @@
-use Rattle.std.proofs.Common.{◌≡◌, ℕ, ◌+◌, ◌++◌, ◌∙◌, List, All, length, ap, sym, subst, arith}
+use Rattle.std.proofs.Common.{◌≡◌, ℕ, ◌+◌, ◌++◌, ◌∙◌, List, All, length, ap, sym, subst}
 use Rattle.std.proofs.lemmas.List.{length-map}
 use Rattle.pauli_basis.specs.Pauli.{PauliString}
 use Rattle.tc_circuit.specs.Circuit.{Gates}
@@ -11,9 +11,9 @@ use Rattle.meet_middle.specs.Halves.{spelled}
 use Rattle.meet_middle.specs.Answers.{IsAnswer}
 use Rattle.meet_middle.specs.declared.answer.Answer.{Answer}
 use Rattle.tcount_top.specs.Bench.{bench_head, found_end, above_end}
-use Rattle.tcount_top.specs.Printed.{codes_of, word_texts}
+use Rattle.tcount_top.specs.Printed.{word_texts}
 use Rattle.tcount_top.proofs.Letters.{texts_are}
-use Rattle.tcount_top.proofs.Made.{Laws, found_line, above_line}
+use Rattle.tcount_top.proofs.Made.{found_line, above_line}
 use Rattle.tcount_top.proofs.bench.bench.Goals as goal
 
 pub returns-in-Least : goal.returns-in-Least

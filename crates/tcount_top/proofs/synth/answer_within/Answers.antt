@@ -1,7 +1,6 @@
 use Rattle.std.proofs.Common.{ℕ, ◌+◌, length, sym, subst}
 use Rattle.tc_circuit.specs.Circuit.{Gates, IsSmallCircuit}
 use Rattle.channel_rep.specs.Cells.{ChannelGrid, scaled}
-use Rattle.channel_rep.specs.Tables.{IsCircuitChannel}
 use Rattle.level_laws.specs.Levels.{IsLeastWord, NoneBelow}
 use Rattle.meet_middle.specs.Halves.{spelled}
 use Rattle.meet_middle.specs.Answers.{IsAnswer}
