@@ -44,19 +44,23 @@ module _ (laws : Laws) (n t seed bound : ℕ) (some : 0 < n) (few : n ≤ 3) (c 
   of_made = subst (λ (d : Gates). IsBuiltOf d.qubits (steps_of d.gates) m) same is
 
   -- the least word, within the bound
-  pub found_line : (w : List ℕ) → IsLeastWord n m w → length w ≤ bound → (bytes : List ℕ) → bytes ≡ bench_head n t seed (length c.gates) ++ found_end (length w) (word_texts n w) → BenchOut n t seed bound Found bytes
-  found_line w least within bytes e =
-      subst (λ (b : List ℕ). BenchOut n t seed bound Found b) (ap (λ (g : List Gate). bench_head n t seed (length g) ++ found_end (length w) (word_texts n w)) (sym made) ∙ sym e)
+  pub found_line : (w : List ℕ) → IsLeastWord n m w → length w ≤ bound → (front : List ℕ) → front ≡ bench_head n t seed (length c.gates)
+      → (count : ℕ) → count ≡ length w → (texts : List (List ℕ)) → texts ≡ word_texts n w → (bytes : List ℕ) → bytes ≡ front ++ found_end count texts → BenchOut n t seed bound Found bytes
+  found_line w least within front head count long texts letters bytes e =
+      let line : bytes ≡ bench_head n t seed (length (made_gates n t seed)) ++ found_end (length w) (word_texts n w) =
+      e ∙ (λ i. (head ∙ ap (λ (g : List Gate). bench_head n t seed (length g)) made) i ++ found_end (long i) (letters i)) in
+      subst (λ (b : List ℕ). BenchOut n t seed bound Found b) (sym line)
       (found (length w) ((laws.lengths n some few (made_gates n t seed) fits m of_made (length w)).1 (w, least, refl)) within w
       (least_of_same laws.tables laws.classes n m (built n (steps_of (made_gates n t seed))) of_made w least))
 
   -- no word within the bound
-  pub above_line : NoneBelow n m (bound + 1) → (bytes : List ℕ) → bytes ≡ bench_head n t seed (length c.gates) ++ above_end bound → BenchOut n t seed bound Above bytes
-  above_line none bytes e =
+  pub above_line : NoneBelow n m (bound + 1) → (front : List ℕ) → front ≡ bench_head n t seed (length c.gates) → (bytes : List ℕ) → bytes ≡ front ++ above_end bound → BenchOut n t seed bound Above bytes
+  above_line none front head bytes e =
       let count = laws.exist n some few (made_gates n t seed) fits in
       let d = count.1.reached in
       let over : bound < t_count_of d.0 = (laws.pass n some few (made_gates n t seed) fits m of_made bound).0 none d.0 d.1 d.2 in
-      subst (λ (b : List ℕ). BenchOut n t seed bound Above b) (ap (λ (g : List Gate). bench_head n t seed (length g) ++ above_end bound) (sym made) ∙ sym e) (above count.0 count.1 (omega (arith, over, d.3)))
+      let line : bytes ≡ bench_head n t seed (length (made_gates n t seed)) ++ above_end bound = e ∙ ap (λ (l : List ℕ). l ++ above_end bound) (head ∙ ap (λ (g : List Gate). bench_head n t seed (length g)) made) in
+      subst (λ (b : List ℕ). BenchOut n t seed bound Above b) (sym line) (above count.0 count.1 (omega (arith, over, d.3)))
 
 -- ---- one outcome
 pub one_bench : LeastWordsAreUnique → (n t seed bound : ℕ) (s u : Status) (a b : List ℕ) → BenchOut n t seed bound s a → BenchOut n t seed bound u b → (s ≡ u) × (a ≡ b)

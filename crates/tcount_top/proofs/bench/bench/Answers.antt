@@ -1,4 +1,4 @@
-use Rattle.std.proofs.Common.{◌≡◌, ℕ, ◌+◌, ◌++◌, ◌∙◌, List, All, length, ap, sym, subst}
+use Rattle.std.proofs.Common.{◌≡◌, ℕ, ◌+◌, ◌∙◌, List, All, length, string_bytes, ap, sym, subst}
 use Rattle.std.proofs.lemmas.List.{length-map}
 use Rattle.pauli_basis.specs.Pauli.{PauliString}
 use Rattle.tc_circuit.specs.Circuit.{Gates}
@@ -10,7 +10,7 @@ use Rattle.level_laws.specs.Levels.{IsLeastWord, NoneBelow}
 use Rattle.meet_middle.specs.Halves.{spelled}
 use Rattle.meet_middle.specs.Answers.{IsAnswer}
 use Rattle.meet_middle.specs.declared.answer.Answer.{Answer}
-use Rattle.tcount_top.specs.Bench.{bench_head, found_end, above_end}
+use Rattle.tcount_top.specs.Bench.{bench_head}
 use Rattle.tcount_top.specs.Printed.{word_texts}
 use Rattle.tcount_top.proofs.Letters.{texts_are}
 use Rattle.tcount_top.proofs.Made.{found_line, above_line}
@@ -31,13 +31,12 @@ returns-in-Least g c =
     let texts : letter_texts c.deref.result.now ≡ word_texts n w = ap letter_texts c.deref.ensures.value ∙ texts_are n letters all ∙ ap (word_texts n) c.in_ok-letters-in-Least.ensures.codes in
     let long : length c.deref.result.now ≡ length w =
     ap (λ (l : List PauliString). length l) c.deref.ensures.value ∙ sym (length-map letters (λ (p : PauliString). p.code)) ∙ ap (λ (l : List ℕ). length l) c.in_ok-letters-in-Least.ensures.codes in
-    let head = c.in_ok-line.ensures ∙ ap (λ (l : List Gate). bench_head n c.args.t c.args.seed (length l)) c.gates-gates.ensures.value in
-    let line : c.into_bytes.result.items ≡ bench_head n c.args.t c.args.seed (length circuit.gates) ++ found_end (length w) (word_texts n w) =
-    rw c.into_bytes.ensures.value (c.in_ok-push_found-in-Least.ensures ∙ (λ i. head i ++ found_end (long i) (texts i))) in
+    let front = string_bytes c.in_ok-line.line in
+    let head : front ≡ bench_head n c.args.t c.args.seed (length circuit.gates) = subst (λ (l : List Gate). front ≡ bench_head n c.args.t c.args.seed (length l)) c.gates-gates.ensures.value c.in_ok-line.ensures in
     found_line
     record { tables = c.channels_compare.ensures.equal; classes = c.tables_are_classes.ensures; exist = c.least_counts_are_lengths.ensures.exists; lengths = c.least_counts_are_lengths.ensures.lengths; pass = c.least_counts_are_lengths.ensures.above }
     n c.args.t c.args.seed c.args.bound c.requires.some c.requires.few circuit c.in_ok-circuit.ensures.qubits c.in_ok-circuit.ensures.gates fit (scaled channel) c.in_ok-answer.ensures.built w least found.within
-    c.into_bytes.result.items line
+    front head (length c.deref.result.now) long (letter_texts c.deref.result.now) texts c.into_bytes.result.items (rw c.into_bytes.ensures.value c.in_ok-push_found-in-Least.ensures)
 
 pub returns : goal.returns
 returns g c =
@@ -48,10 +47,9 @@ returns g c =
     let of_n : channel.qubits ≡ n = c.in_ok-answer.ensures.qubits ∙ c.in_ok-circuit.ensures.qubits in
     let none : NoneBelow n (scaled channel) (c.args.bound + 1) = subst (λ (k : ℕ). NoneBelow k (scaled channel) (c.args.bound + 1)) of_n
     (subst (λ (a : Answer). IsAnswer channel.qubits (scaled channel) c.args.bound a) c.in-Above.is c.in_ok-answer.ensures.answer) in
-    let head = c.in_ok-line.ensures ∙ ap (λ (l : List Gate). bench_head n c.args.t c.args.seed (length l)) c.gates-gates.ensures.value in
-    let line : c.into_bytes-in-Above.result.items ≡ bench_head n c.args.t c.args.seed (length circuit.gates) ++ above_end c.args.bound =
-    rw c.into_bytes-in-Above.ensures.value (c.in_ok-push_above-in-Above.ensures ∙ ap (λ (l : List ℕ). l ++ above_end c.args.bound) head) in
+    let front = string_bytes c.in_ok-line.line in
+    let head : front ≡ bench_head n c.args.t c.args.seed (length circuit.gates) = subst (λ (l : List Gate). front ≡ bench_head n c.args.t c.args.seed (length l)) c.gates-gates.ensures.value c.in_ok-line.ensures in
     above_line
     record { tables = c.channels_compare.ensures.equal; classes = c.tables_are_classes.ensures; exist = c.least_counts_are_lengths.ensures.exists; lengths = c.least_counts_are_lengths.ensures.lengths; pass = c.least_counts_are_lengths.ensures.above }
     n c.args.t c.args.seed c.args.bound c.requires.some c.requires.few circuit c.in_ok-circuit.ensures.qubits c.in_ok-circuit.ensures.gates fit (scaled channel) c.in_ok-answer.ensures.built none
-    c.into_bytes-in-Above.result.items line
+    front head c.into_bytes-in-Above.result.items (rw c.into_bytes-in-Above.ensures.value c.in_ok-push_above-in-Above.ensures)
