@@ -1,5 +1,6 @@
 use super::*;
 
+mod bench;
 mod gates;
 mod made;
 
@@ -36,7 +37,7 @@ fn answer<H: Threads + Sync, G: Turnstile + Sync>(
 #[test]
 fn usage(rt: HostRuntime) -> Result<(), Fail> {
     let line = "usage: synth M W | check | levels N K W | bench N T SEED M W\n";
-    let rows: [&[&str]; 22] = [
+    let rows: [&[&str]; 28] = [
         &["synth", "5", "9"],
         &["synth", "5", "0"],
         &["synth", "0", "1", "1"],
@@ -58,6 +59,12 @@ fn usage(rt: HostRuntime) -> Result<(), Fail> {
         &["levels", "2", "7", "1"],
         &["levels", "3", "5", "1"],
         &["levels", "3", "1", "9"],
+        &["bench", "1", "3", "0", "5"],
+        &["bench", "4", "3", "0", "5", "1"],
+        &["bench", "1", "45", "0", "5", "1"],
+        &["bench", "1", "3", "2147483648", "5", "1"],
+        &["bench", "3", "3", "0", "9", "1"],
+        &["bench", "1", "3", "0", "5", "9"],
         &[],
     ];
     for words in rows {

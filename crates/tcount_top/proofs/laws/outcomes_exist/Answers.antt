@@ -9,6 +9,7 @@ returns c =
     record {
       tables = c.channels_compare.ensures.equal;
       built = c.channels_compare.ensures.built;
+      exist = counts.exists;
       lengths = counts.lengths;
       permutes = c.words_stand_behind_rests.ensures.permutation;
       grids = c.words_stand_behind_rests.ensures.grid;
