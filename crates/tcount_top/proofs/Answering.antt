@@ -8,10 +8,11 @@ use Rattle.tc_circuit.specs.Circuit.{Gates}
 use Rattle.tc_io.specs.Stream.{ReadsAll, TakesFront, TakesAtMost}
 use Rattle.tcount_top.specs.declared.command.TextCommand.{TextCommand}
 use Rattle.tcount_top.specs.declared.command.TextCommand.TheVariants.{Synth, Check}
-use Rattle.tcount_top.specs.declared.command.Command.TheVariants.{OverText, Levels}
-use Rattle.tcount_top.specs.Words.{IsLevels, SpellText, IsCommand, AskText}
+use Rattle.tcount_top.specs.declared.command.Command.TheVariants.{OverText, Levels, Bench}
+use Rattle.tcount_top.specs.Words.{IsLevels, IsBench, SpellText, IsCommand, AskText}
 use Rattle.tcount_top.specs.Lines.{usage_line, too_long_line, levels_line}
 use Rattle.tcount_top.specs.Out.{Out, SynthOut, CircuitsOut, ProgramsOut, CheckOut, TextOut, longest, usage, command, too_long, refused, past_limit, found, above, many_h, are_same, differ, first_refused, second_refused, both_read, overlong, bad_byte, no_halves, halved}
+use Rattle.tcount_top.specs.Bench.{BenchOut, found as bench_found, above as bench_above}
 use Rattle.tcount_top.specs.Run.{Device, Answers, Responds, TakesText, OnContent, IsOutcome, IsSound, IsUntouched, Failed}
 use Rattle.tcount_top.specs.declared.top.Status.{Status}
 use Rattle.tcount_top.specs.declared.top.Status.TheVariants.{Found, Above, Refused, Usage, ReadFault, WriteFault, NoMemory}
@@ -106,7 +107,7 @@ responded words source sink wanted status bytes is out took (inr h) = record {
   at_most = took.at_most;
 }
 
--- the outcome of a text is Found, Above or Refused
+-- the outcome of a text, or of `bench`, is Found, Above or Refused
 abbrev pub IsAnswer : Status → Type 0
 IsAnswer Found = ⊤
 IsAnswer Above = ⊤
@@ -142,6 +143,10 @@ check_answer text status bytes (halved l cut h s b out) = programs_answer cut _ 
 pub text_answer : (asked : TextCommand) (text : List ℕ) (status : Status) (bytes : List ℕ) → TextOut asked text status bytes → IsAnswer status
 text_answer (Synth bound workers) text status bytes out = synth_answer bound text status bytes out
 text_answer Check text status bytes out = check_answer text status bytes out
+
+pub bench_answer : (n t seed bound : ℕ) (status : Status) (bytes : List ℕ) → BenchOut n t seed bound status bytes → IsAnswer status
+bench_answer n t seed bound status bytes (bench_found count least within word is) = tt
+bench_answer n t seed bound status bytes (bench_above count least over) = tt
 
 -- that is neither want of memory nor a fault
 answer_is_outcome : (status : Status) → IsAnswer status → IsOutcome status
@@ -201,11 +206,24 @@ usage_answers words source sink none status same sound response =
 pub levels_ask_none : (words : List (List ℕ)) (qubits top workers : ℕ) → IsLevels words qubits top workers → AskText words → ⊥
 levels_ask_none words qubits top workers is ask = let same : Levels qubits top workers ≡ OverText ask.0 = one_command words (Levels qubits top workers) (OverText ask.0) is ask.1 in cc
 
--- and their answer
-pub levels_answers : (words : List (List ℕ)) (source sink : Device) (qubits top workers : ℕ) → IsLevels words qubits top workers → (status : Status) → IsUntouched source → IsSound source → (status ≡ NoMemory → IsUntouched sink)
-    → ((status ≡ NoMemory) ⊎ Responds sink (levels_line qubits top) Found status) → Answers words source sink status
-levels_answers words source sink qubits top workers is status same sound untouched (inr response) =
-    responded words source sink Found status (levels_line qubits top) tt (on_any source.bytes_before _ (λ text. command (Levels qubits top workers) is (refl, refl)))
-    (unread words source (levels_ask_none words qubits top workers is) same sound) response
-levels_answers words source sink qubits top workers is status same sound untouched (inl e) =
-    subst (Answers words source sink) (sym e) (no_memory words source sink (Levels qubits top workers, is) (untouched e) (takes_none _ _ same))
+-- nor do words that are `bench`
+pub bench_asks_none : (words : List (List ℕ)) (n t seed bound workers : ℕ) → IsBench words n t seed bound workers → AskText words → ⊥
+bench_asks_none words n t seed bound workers is ask = let same : Bench n t seed bound workers ≡ OverText ask.0 = one_command words (Bench n t seed bound workers) (OverText ask.0) is ask.1 in cc
+
+-- and their answers
+module _ (words : List (List ℕ)) (source sink : Device) (status : Status) (same : IsUntouched source) (sound : IsSound source) (untouched : status ≡ NoMemory → IsUntouched sink) where
+  wanting : IsCommand words → status ≡ NoMemory → Answers words source sink status
+  wanting is e = subst (Answers words source sink) (sym e) (no_memory words source sink is (untouched e) (takes_none _ _ same))
+
+  pub levels_answers : (qubits top workers : ℕ) → IsLevels words qubits top workers → (status ≡ NoMemory) ⊎ Responds sink (levels_line qubits top) Found status → Answers words source sink status
+  levels_answers qubits top workers is (inr response) =
+      responded words source sink Found status (levels_line qubits top) tt (on_any source.bytes_before _ (λ text. command (Levels qubits top workers) is (refl, refl)))
+      (unread words source (levels_ask_none words qubits top workers is) same sound) response
+  levels_answers qubits top workers is (inl e) = wanting (Levels qubits top workers, is) e
+
+  pub bench_answers : (n t seed bound workers : ℕ) → IsBench words n t seed bound workers
+      → (status ≡ NoMemory) ⊎ ((wanted : Status) × (bytes : List ℕ) × BenchOut n t seed bound wanted bytes × Responds sink bytes wanted status) → Answers words source sink status
+  bench_answers n t seed bound workers is (inr (wanted, bytes, out, response)) =
+      responded words source sink wanted status bytes (answer_is_outcome wanted (bench_answer n t seed bound wanted bytes out)) (on_any source.bytes_before _ (λ text. command (Bench n t seed bound workers) is out))
+      (unread words source (bench_asks_none words n t seed bound workers is) same sound) response
+  bench_answers n t seed bound workers is (inl e) = wanting (Bench n t seed bound workers, is) e

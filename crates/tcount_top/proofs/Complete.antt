@@ -8,10 +8,11 @@ use Rattle.tcount_top.specs.declared.top.Status.{Status}
 use Rattle.tcount_top.specs.declared.top.Status.TheVariants.{Found, Above, Refused, Usage, ReadFault, WriteFault, NoMemory}
 use Rattle.tcount_top.specs.declared.command.TextCommand.TheVariants.{Synth, Check}
 use Rattle.tcount_top.specs.declared.command.Command.{Command}
-use Rattle.tcount_top.specs.declared.command.Command.TheVariants.{OverText, Levels}
+use Rattle.tcount_top.specs.declared.command.Command.TheVariants.{OverText, Levels, Bench}
 use Rattle.tcount_top.specs.Words.{Spell}
 use Rattle.tcount_top.specs.Laws.{Accepts, AreTaken, AnswersAreComplete}
 use Rattle.tcount_top.specs.Out.{Out, SynthOut, IsTaken, CircuitsOut, ProgramsOut, CheckOut, CommandOut, AreFewH, most_bound, usage, command, too_long, refused, past_limit, found, above, many_h, are_same, differ, first_refused, second_refused, both_read, overlong, bad_byte, no_halves, halved}
+use Rattle.tcount_top.specs.Bench.{BenchOut, found as bench_found, above as bench_above}
 use Rattle.tcount_top.specs.Run.{OnContent, WritesOutcome}
 use Rattle.tcount_top.proofs.OneCheck.{not_many}
 use Rattle.tcount_top.proofs.Words.{one_command}
@@ -27,6 +28,11 @@ pub record Reader : Type 0 where
   pub place : (text : List ℕ) (p q : ℕ) → HasHalves text p → HasHalves text q → p ≡ q
   pub never_none : (text : List ℕ) (p : ℕ) → HasHalves text p → HasNoHalves text → ⊥
   pub never_bad : (text : List ℕ) (p q : ℕ) → HasHalves text p → Bad text q → ⊥
+
+-- `bench` answers nothing else
+bench_answered : (n t seed bound : ℕ) (s : Status) (b : List ℕ) → BenchOut n t seed bound s b → IsAnswered s
+bench_answered n t seed bound s b (bench_found count least within word is) = inl refl
+bench_answered n t seed bound s b (bench_above count least over) = inr refl
 
 module _ (reader : Reader) where
   -- what is accepted isn't refused
@@ -63,6 +69,7 @@ module _ (reader : Reader) where
   command_answered (OverText (Synth bound workers)) text (c, is) s b out = synth_answered bound text c is s b out
   command_answered (OverText Check) text (c, d, is) s b out = check_answered text c d is s b out
   command_answered (Levels n k w) text is s b out = inl out.0
+  command_answered (Bench n t seed bound w) text is s b out = bench_answered n t seed bound s b out
 
   -- so are outcomes
   outcome_answered : (words : List (List ℕ)) (text : List ℕ) (asked : Command) → Spell words asked → Accepts asked text → (s : Status) (b : List ℕ) → Out words text s b → IsAnswered s

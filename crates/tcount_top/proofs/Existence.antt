@@ -1,17 +1,15 @@
 -- Each command has an outcome for each text.
-use Rattle.std.proofs.Common.{◌≡◌, ◌⊎◌, ℕ, zero, suc, ◌+◌, ◌*◌, ◌≤◌, Bool, true, false, List, [], ◌∷◌, ◌++◌, length, take, drop, refl, ap, subst, inl, inr, arith, length-append}
-use Rattle.std.specs.Prelude.{◌==◌, ◌||◌, Contains, codes, if◌then◌else◌}
+use Rattle.std.proofs.Common.{◌⊎◌, ℕ, zero, suc, ◌+◌, ◌≤◌, List, [], ◌∷◌, ◌++◌, length, take, drop, refl, ap, subst, inl, inr, arith}
+use Rattle.std.specs.Prelude.{Contains, codes}
 use Rattle.std.proofs.lemmas.Bool.{cases_lt}
 use Rattle.std.proofs.lemmas.List.Elements.{All-nil, All-cons}
 use Rattle.qasm_lex.specs.Tokens.{Bad}
 use Rattle.tc_circuit.specs.Circuit.{Gates, IsSmallCircuit}
 use Rattle.tc_circuit.specs.Model.{IsCircuit, IsLeastTCount, h_count_of}
-use Rattle.tc_circuit.specs.declared.circuit.Gate.{Gate}
 use Rattle.pauli_basis.specs.Letters.{letter_of}
 use Rattle.pauli_basis.specs.Pauli.{letter_glyph, pauli_text}
 use Rattle.qasm_reader.specs.Read.{Reads, Refused as IsRefused}
 use Rattle.qasm_reader.specs.Halves.{HasHalves, HasNoHalves}
-use Rattle.channel_rep.specs.declared.gate.ChannelGate.{ChannelGate}
 use Rattle.channel_rep.specs.Cells.{ChannelGrid, scaled}
 use Rattle.channel_rep.specs.Laws.{TablesCompare}
 use Rattle.channel_rep.specs.Tables.{ScaledTable, IsBuiltOf, IsCircuitChannel, built}
@@ -19,59 +17,23 @@ use Rattle.circuit_writer.specs.Shown.{IsLetter, IsWord, shown}
 use Rattle.clifford_rest.specs.Laws.{PermutationsHaveCircuits}
 use Rattle.clifford_rest.specs.Rest.{rest_of}
 use Rattle.count_checker.specs.Check.{most_h_gates, AreSame}
+use Rattle.tc_bridge.specs.Block.{word_gates}
 use Rattle.tc_bridge.specs.Laws.{BuiltTablesAreChannels}
-use Rattle.tc_bridge.specs.Block.{as_gates, inverse_gate, undone, letter_to_z, to_z, highest, gather, rising, opening, block, word_gates}
 use Rattle.tc_bridge.specs.Steps.{steps_of}
 use Rattle.level_laws.specs.Laws.{RestsAreCircuits}
-use Rattle.meet_laws.specs.Laws.{LeastCountsAreLengths, RestsArePermutations, RestsHaveGrids, LeastWordsMakeCircuits}
+use Rattle.meet_laws.specs.Laws.{LeastCountsExist as CircuitsHaveLeastCounts, LeastCountsAreLengths, RestsArePermutations, RestsHaveGrids, LeastWordsMakeCircuits}
 use Rattle.tcount_top.specs.declared.top.Status.{Status}
 use Rattle.tcount_top.specs.declared.top.Status.TheVariants.{Found, Above, Refused}
 use Rattle.tcount_top.specs.declared.command.TextCommand.TheVariants.{Synth, Check}
-use Rattle.tcount_top.specs.declared.command.Command.TheVariants.{OverText, Levels}
+use Rattle.tcount_top.specs.declared.command.Command.TheVariants.{OverText, Levels, Bench}
 use Rattle.tcount_top.specs.Lines.{too_long_line, refusal_line, limit_line, above_line, no_halves_line, many_h_line, same_line, different_line, levels_line}
 use Rattle.tcount_top.specs.Laws.{OutcomesExist, LeastCountsExist}
 use Rattle.tcount_top.specs.Out.{SynthOut, IsTaken, CircuitsOut, ProgramsOut, CheckOut, ShowsLike, longest, most_bound, command, too_long, refused, past_limit, found, above, many_h, are_same, differ, first_refused, second_refused, both_read, overlong, bad_byte, no_halves, halved}
+use Rattle.tcount_top.specs.Bench.{made_word, made_gates, bench_head, found_end, above_end, BenchOut, found as bench_found, above as bench_above}
 use Rattle.tcount_top.specs.Printed.{IsLeft, word_texts}
+use Rattle.tcount_top.proofs.Blocks.{word_fits, short_word}
 use Rattle.tcount_top.proofs.Words.{most_nine}
 use Rattle.tcount_top.proofs.Printing.{left_permutes, left_channel, PrintsRead, IsMade, made_shows}
-
--- ---- the gates of a word are few
-short_letter : (q l : ℕ) → length (letter_to_z q l) ≤ 2
-short_letter q zero = omega arith
-short_letter q (suc zero) = omega arith
-short_letter q (suc (suc zero)) = omega arith
-short_letter q (suc (suc (suc l))) = omega arith
-
-short_gather : (z p q : ℕ) → length (gather z p q) ≤ 2
-short_gather z p q = by ((letter_of q p == 0) || (q == z))
-  where
-    by : (b : Bool) → length (if b then [] else (ChannelGate.Cx q z ∷ [])) ≤ 2
-    by true = omega arith
-    by false = omega arith
-
-short_rising : (f : ℕ → List ChannelGate) → ((q : ℕ) → length (f q) ≤ 2) → (count q : ℕ) → length (rising f count q) ≤ 2 * count
-short_rising f h zero q = omega arith
-short_rising f h (suc count) q = omega (arith, length-append (f q) (rising f count (suc q)), h q, short_rising f h count (suc q))
-
-short_opening : (n p : ℕ) → length (opening n p) ≤ 4 * n
-short_opening n p =
-    omega (arith, length-append (rising (to_z p) n 0) (rising (gather (highest n p) p) n 0), short_rising (to_z p) (λ q. short_letter q (letter_of q p)) n 0, short_rising (gather (highest n p) p) (short_gather (highest n p) p) n 0)
-
-length-as_gates : (gates : List ChannelGate) → length (as_gates gates) ≡ length gates
-length-as_gates [] = refl
-length-as_gates (g ∷ gates) = ap suc (length-as_gates gates)
-
-length-undone : (gates : List ChannelGate) → length (undone gates) ≡ length gates
-length-undone [] = refl
-length-undone (g ∷ gates) = omega (arith, length-append (undone gates) (inverse_gate g ∷ []), length-undone gates)
-
-short_block : (n p : ℕ) → n ≤ 3 → length (block n p) ≤ 25
-short_block n p few =
-    omega (arith, few, length-append (as_gates (opening n p)) (Gate.T (highest n p) ∷ as_gates (undone (opening n p))), length-as_gates (opening n p), length-as_gates (undone (opening n p)), length-undone (opening n p), short_opening n p)
-
-short_word : (n : ℕ) → n ≤ 3 → (word : List ℕ) → length (word_gates n word) ≤ 25 * length word
-short_word n few [] = omega arith
-short_word n few (p ∷ word) = omega (arith, length-append (word_gates n word) (block n p), short_block n p few, short_word n few word)
 
 -- ---- the texts of letters
 glyph_is : (l : ℕ) → Contains (codes "IXYZ") (letter_glyph l)
@@ -93,6 +55,7 @@ letters_are n (p ∷ word) = let rest = letters_are n word in (ap suc rest.0, Al
 pub record Showing : Type 0 where
   pub tables : TablesCompare
   pub built : BuiltTablesAreChannels
+  pub exist : CircuitsHaveLeastCounts
   pub lengths : LeastCountsAreLengths
   pub permutes : RestsArePermutations
   pub grids : RestsHaveGrids
@@ -202,8 +165,22 @@ module _ (showing : Showing) (reader : Reader) where
     ]
   ]
 
+  -- a made circuit has a least T-count, and its channel a least word
+  bench_exists : (n t seed bound : ℕ) → 0 < n → n ≤ 3 → HasOutcome (BenchOut n t seed bound)
+  bench_exists n t seed bound some few =
+      let gates = made_gates n t seed in
+      let fit = word_fits n some (made_word n t seed) in
+      let count = showing.exist n some few gates fit in
+      let word = (showing.lengths n some few gates fit (built n (steps_of gates)) (λ row column low below. refl) count.0).0 count.1 in
+      let head = bench_head n t seed (length gates) in
+      elim (cases_lt bound count.0) [
+        | inl over ↦ (Above, head ++ above_end bound, bench_above count.0 count.1 over)
+        | inr within ↦ (Found, head ++ found_end count.0 (word_texts n word.0), bench_found count.0 count.1 within word.0 word.1)
+      ]
+
   -- words that are a command have an outcome for each text
   pub outcomes_exist : OutcomesExist
   outcomes_exist words text (OverText (Synth bound workers), is) = let o = synth_exists bound text in (o.0, o.1, command (OverText (Synth bound workers)) is o.2)
   outcomes_exist words text (OverText Check, is) = let o = check_exists text in (o.0, o.1, command (OverText Check) is o.2)
   outcomes_exist words text (Levels n k w, is) = (Found, levels_line n k, command (Levels n k w) is (refl, refl))
+  outcomes_exist words text (Bench n t seed bound w, is) = let o = bench_exists n t seed bound is.some is.few in (o.0, o.1, command (Bench n t seed bound w) is o.2)

@@ -8,5 +8,7 @@ pub mod Comparing
 pub mod OneCheck
 pub mod OneOutcome
 pub mod OneAnswer
+pub mod Made
+pub mod Blocks
 pub mod Existence
 pub mod Complete

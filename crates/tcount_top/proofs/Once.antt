@@ -39,7 +39,7 @@ coset_of_same : TablesCompare → (n : ℕ) (a b : ScaledTable) → SameTable n 
 coset_of_same tables n a b h = record { there = columns_same n a b h; back = columns_same n b a ((tables n).symmetric a b h) }
 
 -- so they have one least word
-least_of_same : TablesCompare → TablesAreClasses → (n : ℕ) (a b : ScaledTable) → SameTable n a b → (w : List ℕ) → IsLeastWord n a w → IsLeastWord n b w
+pub least_of_same : TablesCompare → TablesAreClasses → (n : ℕ) (a b : ScaledTable) → SameTable n a b → (w : List ℕ) → IsLeastWord n a w → IsLeastWord n b w
 least_of_same tables classes n a b h w least = record {
   member = to a b h w least.member;
   shortest = λ v hv. least.shortest v (to b a back v hv);

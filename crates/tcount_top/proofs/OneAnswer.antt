@@ -13,7 +13,8 @@ use Rattle.tcount_top.specs.Lines.{limit_line, above_line}
 use Rattle.tcount_top.specs.Printed.{IsPrinted}
 use Rattle.tcount_top.specs.Laws.{PrintedOnce, OneAnswerForOneMatrix}
 use Rattle.tcount_top.specs.Out.{SynthOut, longest, most_bound, too_long, refused, past_limit, found, above}
-use Rattle.tcount_top.proofs.OneOutcome.{least_unique, printed_of}
+use Rattle.tcount_top.proofs.Outcomes.{least_unique}
+use Rattle.tcount_top.proofs.OneOutcome.{printed_of}
 
 -- the laws that it rests on
 pub record Laws : Type 0 where

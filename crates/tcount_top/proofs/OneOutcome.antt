@@ -3,23 +3,20 @@ use Rattle.std.proofs.Common.{◌≡◌, ℕ, ◌<◌, ◌≤◌, List, refl, ap
 use Rattle.tc_circuit.specs.Circuit.{Gates}
 use Rattle.tc_circuit.specs.Model.{IsLeastTCount}
 use Rattle.qasm_reader.specs.Read.{Reads, Refused as IsRefused}
+use Rattle.level_laws.specs.Laws.{LeastWordsAreUnique}
 use Rattle.tcount_top.specs.declared.top.Status.{Status}
 use Rattle.tcount_top.specs.declared.command.TextCommand.{TextCommand}
 use Rattle.tcount_top.specs.declared.command.TextCommand.TheVariants.{Synth, Check}
 use Rattle.tcount_top.specs.declared.command.Command.{Command}
-use Rattle.tcount_top.specs.declared.command.Command.TheVariants.{OverText, Levels}
+use Rattle.tcount_top.specs.declared.command.Command.TheVariants.{OverText, Levels, Bench}
 use Rattle.tcount_top.specs.Lines.{refusal_line, limit_line}
 use Rattle.tcount_top.specs.Printed.{IsPrinted}
 use Rattle.tcount_top.specs.Laws.{OneOutcome, PrintedOnce}
 use Rattle.tcount_top.specs.Out.{TextOut, CommandOut, SynthOut, ShowsLike, most_bound, usage, command, too_long, refused, past_limit, found, above}
 use Rattle.tcount_top.proofs.Words.{one_command}
+use Rattle.tcount_top.proofs.Outcomes.{least_unique}
 use Rattle.tcount_top.proofs.OneCheck.{Reading, Halving, one_check}
-
--- a circuit has one least T-count
-pub least_unique : (c : Gates) (t u : ℕ) → IsLeastTCount c.qubits c.gates t → IsLeastTCount c.qubits c.gates u → t ≡ u
-least_unique c t u a b =
-    let x = a.reached in
-    let y = b.reached in omega (arith, a.least y.0 y.1 y.2, b.least x.0 x.1 x.2, x.3, y.3)
+use Rattle.tcount_top.proofs.Made.{one_bench}
 
 -- what shows a circuit is its print
 pub printed_of : (c : Gates) (t : ℕ) (bytes : List ℕ) → ShowsLike c t bytes → IsPrinted c bytes
@@ -78,13 +75,14 @@ one_text_out : Reading → Halving → PrintedOnce → (c : TextCommand) (text :
 one_text_out reading halving once (Synth m w) text s t a b x y = one_synth reading once m text s t a b x y
 one_text_out reading halving once Check text s t a b x y = one_check reading halving text s t a b x y
 
-one_command_out : Reading → Halving → PrintedOnce → (c : Command) (text : List ℕ) (s t : Status) (a b : List ℕ) → CommandOut c text s a → CommandOut c text t b → (s ≡ t) × (a ≡ b)
-one_command_out reading halving once (OverText c) text s t a b x y = one_text_out reading halving once c text s t a b x y
-one_command_out reading halving once (Levels n k w) text s t a b x y = (x.0 ∙ sym y.0, x.1 ∙ sym y.1)
+one_command_out : Reading → Halving → PrintedOnce → LeastWordsAreUnique → (c : Command) (text : List ℕ) (s t : Status) (a b : List ℕ) → CommandOut c text s a → CommandOut c text t b → (s ≡ t) × (a ≡ b)
+one_command_out reading halving once unique (OverText c) text s t a b x y = one_text_out reading halving once c text s t a b x y
+one_command_out reading halving once unique (Levels n k w) text s t a b x y = (x.0 ∙ sym y.0, x.1 ∙ sym y.1)
+one_command_out reading halving once unique (Bench n k seed m w) text s t a b x y = one_bench unique n k seed m s t a b x y
 
-pub one_outcome : Reading → Halving → PrintedOnce → OneOutcome
-one_outcome reading halving once words text s t a b (usage none e f) (usage none' e' f') = (e ∙ sym e', f ∙ sym f')
-one_outcome reading halving once words text s t a b (usage none e f) (command c is out) = absurd (none (c, is))
-one_outcome reading halving once words text s t a b (command c is out) (usage none e f) = absurd (none (c, is))
-one_outcome reading halving once words text s t a b (command c is out) (command d is' out') =
-    one_command_out reading halving once c text s t a b out (subst (λ (x : Command). CommandOut x text t b) (sym (one_command words c d is is')) out')
+pub one_outcome : Reading → Halving → PrintedOnce → LeastWordsAreUnique → OneOutcome
+one_outcome reading halving once unique words text s t a b (usage none e f) (usage none' e' f') = (e ∙ sym e', f ∙ sym f')
+one_outcome reading halving once unique words text s t a b (usage none e f) (command c is out) = absurd (none (c, is))
+one_outcome reading halving once unique words text s t a b (command c is out) (usage none e f) = absurd (none (c, is))
+one_outcome reading halving once unique words text s t a b (command c is out) (command d is' out') =
+    one_command_out reading halving once unique c text s t a b out (subst (λ (x : Command). CommandOut x text t b) (sym (one_command words c d is is')) out')

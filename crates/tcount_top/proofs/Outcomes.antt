@@ -11,6 +11,12 @@ use Rattle.tcount_top.specs.Lines.{refusal_line, limit_line, above_line}
 use Rattle.tcount_top.specs.Out.{SynthOut, ShowsLike, longest, most_bound, refused, past_limit, found, above}
 use Rattle.tcount_top.specs.declared.top.Status.TheVariants.{Found, Above, Refused}
 
+-- a circuit has one least T-count
+pub least_unique : (c : Gates) (t u : ℕ) → IsLeastTCount c.qubits c.gates t → IsLeastTCount c.qubits c.gates u → t ≡ u
+least_unique c t u a b =
+    let x = a.reached in
+    let y = b.reached in omega (arith, a.least y.0 y.1 y.2, b.least x.0 x.1 x.2, x.3, y.3)
+
 -- the channel's least word tells the least T-count
 pub least_of_word : LeastCountsAreLengths → (c : Gates) → IsSmallCircuit c → (m : ScaledTable) → IsBuiltOf c.qubits (steps_of c.gates) m → (w : List ℕ) → IsLeastWord c.qubits m w
     → IsLeastTCount c.qubits c.gates (length w)

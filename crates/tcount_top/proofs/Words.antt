@@ -1,5 +1,5 @@
 -- Numbers as words, and the commands that words are.
-use Rattle.std.proofs.Common.{◌≡◌, ◌⊎◌, ℕ, zero, suc, ◌^◌, ◌<◌, ◌≤◌, List, [], ◌∷◌, length, get_or, slice_index_or, Result, Ok, Err, IfSome, IfNone, refl, ap, sym, subst, ◌∙◌, inl, inr, arith}
+use Rattle.std.proofs.Common.{◌≡◌, ◌⊎◌, ℕ, zero, suc, ◌*◌, ◌^◌, ◌<◌, ◌≤◌, List, [], ◌∷◌, length, get_or, slice_index_or, Result, Ok, Err, IfSome, IfNone, refl, ap, sym, subst, ◌∙◌, inl, inr, arith}
 use Rattle.std.specs.Prelude.{codes, decimal}
 use Rattle.std.specs.Result.{result_ok}
 use Rattle.std.specs.Int.{IsInRange}
@@ -11,8 +11,8 @@ use Rattle.std.proofs.lemmas.Fmt.{parse-decimal, length-decimal-le, first_decima
 use Rattle.coset_label.specs.Words.{most_letters}
 use Rattle.tcount_top.specs.declared.command.TextCommand.TheVariants.{Synth, Check}
 use Rattle.tcount_top.specs.declared.command.Command.{Command}
-use Rattle.tcount_top.specs.declared.command.Command.TheVariants.{OverText, Levels}
-use Rattle.tcount_top.specs.Words.{IsNumber, IsSynth, IsLevels, Spell, IsCommand}
+use Rattle.tcount_top.specs.declared.command.Command.TheVariants.{OverText, Levels, Bench}
+use Rattle.tcount_top.specs.Words.{IsNumber, IsSynth, IsLevels, IsBench, Spell, IsCommand}
 
 -- ---- numbers
 -- each byte is a digit
@@ -87,6 +87,7 @@ three_words name bound workers (OverText (Synth m w), h) = record {
 }
 three_words name bound workers (OverText Check, h) = let long : 3 ≡ 1 = ap length h in absurd (omega (arith, long))
 three_words name bound workers (Levels n k w, h) = let long : 3 ≡ 4 = ap length h.spelled in absurd (omega (arith, long))
+three_words name bound workers (Bench n t s m w, h) = let long : 3 ≡ 6 = ap length h.spelled in absurd (omega (arith, long))
 
 -- and four words are `levels`, qubits, a level and workers
 pub record AreFour (name qubits top workers : List ℕ) : Type 0 where
@@ -127,18 +128,67 @@ four_words name qubits top workers (Levels n k w, h) = record {
 }
 four_words name qubits top workers (OverText (Synth m w), h) = let long : 4 ≡ 3 = ap length h.spelled in absurd (omega (arith, long))
 four_words name qubits top workers (OverText Check, h) = let long : 4 ≡ 1 = ap length h in absurd (omega (arith, long))
+four_words name qubits top workers (Bench n t s m w, h) = let long : 4 ≡ 6 = ap length h.spelled in absurd (omega (arith, long))
+
+-- six words are `bench`, qubits, letters, a seed, a bound and workers
+pub record AreSix (name qubits letters seed bound workers : List ℕ) : Type 0 where
+  pub is_bench : name ≡ codes "bench"
+  pub n : ℕ
+  pub is_n : IsNumber qubits n
+  pub n_some : 1 ≤ n
+  pub n_few : n ≤ 3
+  pub t : ℕ
+  pub is_t : IsNumber letters t
+  pub t_few : t ≤ 44
+  pub from : ℕ
+  pub is_from : IsNumber seed from
+  pub low_seed : from ≤ 2147483647
+  pub m : ℕ
+  pub is_m : IsNumber bound m
+  pub low : m ≤ 2 * most_letters n
+  pub crew : ℕ
+  pub are_crew : IsNumber workers crew
+  pub some : 1 ≤ crew
+  pub few : crew ≤ 8
+
+pub six_words : (name qubits letters seed bound workers : List ℕ) → IsCommand (name ∷ qubits ∷ letters ∷ seed ∷ bound ∷ workers ∷ []) → AreSix name qubits letters seed bound workers
+six_words name qubits letters seed bound workers (Bench n t s m w, h) = record {
+  is_bench = ap (λ (l : List (List ℕ)). slice_index_or l 0 []) h.spelled;
+  n = n;
+  is_n = (ap (λ (l : List (List ℕ)). slice_index_or l 1 []) h.spelled, omega (arith, h.few));
+  n_some = h.some;
+  n_few = h.few;
+  t = t;
+  is_t = (ap (λ (l : List (List ℕ)). slice_index_or l 2 []) h.spelled, omega (arith, h.short));
+  t_few = h.short;
+  from = s;
+  is_from = (ap (λ (l : List (List ℕ)). slice_index_or l 3 []) h.spelled, omega (arith, h.seeds));
+  low_seed = omega (arith, h.seeds);
+  m = m;
+  is_m = (ap (λ (l : List (List ℕ)). slice_index_or l 4 []) h.spelled, omega (arith, h.low, most_nine n));
+  low = h.low;
+  crew = w;
+  are_crew = (ap (λ (l : List (List ℕ)). slice_index_or l 5 []) h.spelled, omega (arith, h.crew.1));
+  some = h.crew.0;
+  few = h.crew.1;
+}
+six_words name qubits letters seed bound workers (OverText (Synth m w), h) = let long : 6 ≡ 3 = ap length h.spelled in absurd (omega (arith, long))
+six_words name qubits letters seed bound workers (OverText Check, h) = let long : 6 ≡ 1 = ap length h in absurd (omega (arith, long))
+six_words name qubits letters seed bound workers (Levels n k w, h) = let long : 6 ≡ 4 = ap length h.spelled in absurd (omega (arith, long))
 
 -- one word that is a command is `check`
 pub one_word : (name : List ℕ) → IsCommand (name ∷ []) → name ≡ codes "check"
 one_word name (OverText (Synth m w), h) = let long : 1 ≡ 3 = ap length h.spelled in absurd (omega (arith, long))
 one_word name (OverText Check, h) = ap (λ (l : List (List ℕ)). slice_index_or l 0 []) h
 one_word name (Levels n k w, h) = let long : 1 ≡ 4 = ap length h.spelled in absurd (omega (arith, long))
+one_word name (Bench n t s m w, h) = let long : 1 ≡ 6 = ap length h.spelled in absurd (omega (arith, long))
 
--- a command has one word, three or four
-pub command_length : (words : List (List ℕ)) → IsCommand words → (length words ≡ 1) ⊎ ((length words ≡ 3) ⊎ (length words ≡ 4))
+-- a command has one word, three, four or six
+pub command_length : (words : List (List ℕ)) → IsCommand words → (length words ≡ 1) ⊎ ((length words ≡ 3) ⊎ ((length words ≡ 4) ⊎ (length words ≡ 6)))
 command_length words (OverText (Synth m w), h) = inr (inl (ap length h.spelled))
 command_length words (OverText Check, h) = inl (ap length h)
-command_length words (Levels n k w, h) = inr (inr (ap length h.spelled))
+command_length words (Levels n k w, h) = inr (inr (inl (ap length h.spelled)))
+command_length words (Bench n t s m w, h) = inr (inr (inr (ap length h.spelled)))
 
 -- words that are numbers in these ranges are the commands
 pub is_synth : (name bound workers : List ℕ) (m w : ℕ) → name ≡ codes "synth" → IsNumber bound m → IsNumber workers w → 1 ≤ w → w ≤ 8 → IsSynth (name ∷ bound ∷ workers ∷ []) m w
@@ -148,22 +198,68 @@ pub is_levels : (name qubits top workers : List ℕ) (n k w : ℕ) → name ≡ 
     → IsLevels (name ∷ qubits ∷ top ∷ workers ∷ []) n k w
 is_levels name qubits top workers n k w e a n_some n_few b low c some few = record { spelled = λ i. e i ∷ a.0 i ∷ b.0 i ∷ c.0 i ∷ []; some = n_some; few = n_few; low = low; crew = (some, few) }
 
+pub is_bench : (name qubits letters seed bound workers : List ℕ) (n t s m w : ℕ) → name ≡ codes "bench" → IsNumber qubits n → 1 ≤ n → n ≤ 3 → IsNumber letters t → t ≤ 44 → IsNumber seed s → s ≤ 2147483647
+    → IsNumber bound m → m ≤ 2 * most_letters n → IsNumber workers w → 1 ≤ w → w ≤ 8 → IsBench (name ∷ qubits ∷ letters ∷ seed ∷ bound ∷ workers ∷ []) n t s m w
+is_bench name qubits letters seed bound workers n t s m w e a n_some n_few b short d last f low c some few = record {
+  spelled = λ i. e i ∷ a.0 i ∷ b.0 i ∷ d.0 i ∷ f.0 i ∷ c.0 i ∷ [];
+  some = n_some;
+  few = n_few;
+  short = short;
+  seeds = omega (arith, last);
+  low = low;
+  crew = (some, few);
+}
+
 -- ---- one command
+-- how many words a command has
+count_of : Command → ℕ
+count_of (OverText (Synth m w)) = 3
+count_of (OverText Check) = 1
+count_of (Levels n k w) = 4
+count_of (Bench n t s m w) = 6
+
+counted : (words : List (List ℕ)) (a : Command) → Spell words a → length words ≡ count_of a
+counted words (OverText (Synth m w)) h = ap length h.spelled
+counted words (OverText Check) h = ap length h
+counted words (Levels n k w) h = ap length h.spelled
+counted words (Bench n t s m w) h = ap length h.spelled
+
+-- so no words are two commands of different counts
+apart : {P : Type 0} → (words : List (List ℕ)) (a b : Command) → Spell words a → Spell words b → (count_of a ≡ count_of b → ⊥) → P
+apart words a b ha hb other = absurd (other (sym (counted words a ha) ∙ counted words b hb))
+
+-- the word at an index is one number
+one_at : (xs ys : List (List ℕ)) → xs ≡ ys → (i m n : ℕ) → slice_index_or xs i [] ≡ decimal m → slice_index_or ys i [] ≡ decimal n → m < 10 ^ 10 → n < 10 ^ 10 → m ≡ n
+one_at xs ys e i m n a b l k = decimal_injective m n (small m l) (small n k) (sym a ∙ ap (λ (l : List (List ℕ)). slice_index_or l i []) e ∙ b)
+
 -- words are at most one command
 pub one_command : (words : List (List ℕ)) (a b : Command) → Spell words a → Spell words b → a ≡ b
 one_command words (OverText (Synth m w)) (OverText (Synth m' w')) h h' =
     let e = sym h.spelled ∙ h'.spelled in
-    let bound : m ≡ m' = decimal_injective m m' (small m h.number) (small m' h'.number) (ap (λ (l : List (List ℕ)). slice_index_or l 1 []) e) in
-    let crew : w ≡ w' = decimal_injective w w' (omega (arith, h.crew.1)) (omega (arith, h'.crew.1)) (ap (λ (l : List (List ℕ)). slice_index_or l 2 []) e) in λ i. OverText (Synth (bound i) (crew i))
-one_command words (OverText (Synth m w)) (OverText Check) h h' = let long : 3 ≡ 1 = sym (ap length h.spelled) ∙ ap length h' in absurd (omega (arith, long))
-one_command words (OverText (Synth m w)) (Levels n k v) h h' = let long : 3 ≡ 4 = sym (ap length h.spelled) ∙ ap length h'.spelled in absurd (omega (arith, long))
-one_command words (OverText Check) (OverText (Synth m w)) h h' = let long : 1 ≡ 3 = sym (ap length h) ∙ ap length h'.spelled in absurd (omega (arith, long))
+    let bound = one_at _ _ e 1 m m' refl refl h.number h'.number in
+    let crew = one_at _ _ e 2 w w' refl refl (omega (arith, h.crew.1)) (omega (arith, h'.crew.1)) in λ i. OverText (Synth (bound i) (crew i))
+one_command words (OverText (Synth m w)) (OverText Check) h h' = apart words _ _ h h' (λ e. omega (arith, e))
+one_command words (OverText (Synth m w)) (Levels n k v) h h' = apart words _ _ h h' (λ e. omega (arith, e))
+one_command words (OverText (Synth m w)) (Bench n t s b v) h h' = apart words _ _ h h' (λ e. omega (arith, e))
+one_command words (OverText Check) (OverText (Synth m w)) h h' = apart words _ _ h h' (λ e. omega (arith, e))
 one_command words (OverText Check) (OverText Check) h h' = refl
-one_command words (OverText Check) (Levels n k v) h h' = let long : 1 ≡ 4 = sym (ap length h) ∙ ap length h'.spelled in absurd (omega (arith, long))
-one_command words (Levels n k v) (OverText (Synth m w)) h h' = let long : 4 ≡ 3 = sym (ap length h.spelled) ∙ ap length h'.spelled in absurd (omega (arith, long))
-one_command words (Levels n k v) (OverText Check) h h' = let long : 4 ≡ 1 = sym (ap length h.spelled) ∙ ap length h' in absurd (omega (arith, long))
+one_command words (OverText Check) (Levels n k v) h h' = apart words _ _ h h' (λ e. omega (arith, e))
+one_command words (OverText Check) (Bench n t s b v) h h' = apart words _ _ h h' (λ e. omega (arith, e))
+one_command words (Levels n k v) (OverText (Synth m w)) h h' = apart words _ _ h h' (λ e. omega (arith, e))
+one_command words (Levels n k v) (OverText Check) h h' = apart words _ _ h h' (λ e. omega (arith, e))
 one_command words (Levels n k w) (Levels n' k' w') h h' =
     let e = sym h.spelled ∙ h'.spelled in
-    let qubits : n ≡ n' = decimal_injective n n' (omega (arith, h.few)) (omega (arith, h'.few)) (ap (λ (l : List (List ℕ)). slice_index_or l 1 []) e) in
-    let top : k ≡ k' = decimal_injective k k' (omega (arith, h.low, most_nine n)) (omega (arith, h'.low, most_nine n')) (ap (λ (l : List (List ℕ)). slice_index_or l 2 []) e) in
-    let crew : w ≡ w' = decimal_injective w w' (omega (arith, h.crew.1)) (omega (arith, h'.crew.1)) (ap (λ (l : List (List ℕ)). slice_index_or l 3 []) e) in λ i. Levels (qubits i) (top i) (crew i)
+    let qubits = one_at _ _ e 1 n n' refl refl (omega (arith, h.few)) (omega (arith, h'.few)) in
+    let top = one_at _ _ e 2 k k' refl refl (omega (arith, h.low, most_nine n)) (omega (arith, h'.low, most_nine n')) in
+    let crew = one_at _ _ e 3 w w' refl refl (omega (arith, h.crew.1)) (omega (arith, h'.crew.1)) in λ i. Levels (qubits i) (top i) (crew i)
+one_command words (Levels n k v) (Bench n' t s b w) h h' = apart words _ _ h h' (λ e. omega (arith, e))
+one_command words (Bench n t s b v) (OverText (Synth m w)) h h' = apart words _ _ h h' (λ e. omega (arith, e))
+one_command words (Bench n t s b v) (OverText Check) h h' = apart words _ _ h h' (λ e. omega (arith, e))
+one_command words (Bench n t s b v) (Levels n' k w) h h' = apart words _ _ h h' (λ e. omega (arith, e))
+one_command words (Bench n t s b v) (Bench n' t' s' b' v') h h' =
+    let e = sym h.spelled ∙ h'.spelled in
+    let qubits = one_at _ _ e 1 n n' refl refl (omega (arith, h.few)) (omega (arith, h'.few)) in
+    let letters = one_at _ _ e 2 t t' refl refl (omega (arith, h.short)) (omega (arith, h'.short)) in
+    let seed = one_at _ _ e 3 s s' refl refl (omega (arith, h.seeds)) (omega (arith, h'.seeds)) in
+    let bound = one_at _ _ e 4 b b' refl refl (omega (arith, h.low, most_nine n)) (omega (arith, h'.low, most_nine n')) in
+    let crew = one_at _ _ e 5 v v' refl refl (omega (arith, h.crew.1)) (omega (arith, h'.crew.1)) in λ i. Bench (qubits i) (letters i) (seed i) (bound i) (crew i)

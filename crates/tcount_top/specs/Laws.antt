@@ -8,7 +8,7 @@ use Rattle.tcount_top.specs.declared.top.Status.{Status}
 use Rattle.tcount_top.specs.declared.top.Status.TheVariants.{Found, Above, NoMemory}
 use Rattle.tcount_top.specs.declared.command.TextCommand.TheVariants.{Synth, Check}
 use Rattle.tcount_top.specs.declared.command.Command.{Command}
-use Rattle.tcount_top.specs.declared.command.Command.TheVariants.{OverText, Levels}
+use Rattle.tcount_top.specs.declared.command.Command.TheVariants.{OverText, Levels, Bench}
 use Rattle.tcount_top.specs.Words.{Spell, IsCommand}
 use Rattle.tcount_top.specs.Out.{Out, SynthOut, IsTaken, AreFewH, longest}
 use Rattle.tcount_top.specs.Printed.{IsPrinted}
@@ -36,11 +36,12 @@ pub record AreTaken (text : List ℕ) (c d : Gates) : Type 0 where
   pub few : AreFewH c d
 
 -- the command accepts the text: `synth` a circuit with a bound within its limit, `check` two circuits that can be compared,
--- `levels` any text, since it doesn't look at it
+-- `levels` and `bench` any text, since they don't look at it
 abbrev pub Accepts : Command → List ℕ → Type 0
 Accepts (OverText (Synth bound workers)) text = (c : Gates) × IsTaken text c bound
 Accepts (OverText Check) text = (c d : Gates) × AreTaken text c d
 Accepts (Levels qubits top workers) text = ⊤
+Accepts (Bench qubits letters seed bound workers) text = ⊤
 
 -- where the words are a command that accepts the source's content and no device failed, a run answers Found or Above, or
 -- memory was wanting

@@ -2,6 +2,7 @@ pub mod Code
 pub mod Words
 pub mod Lines
 pub mod Printed
+pub mod Bench
 pub mod Out
 pub mod Compared
 pub mod Run

@@ -5,7 +5,7 @@ use Rattle.tcount_top.specs.declared.top.Status.TheVariants.{Found, Above, Refus
 use Rattle.tcount_top.specs.declared.command.TextCommand.{TextCommand}
 use Rattle.tcount_top.specs.declared.command.TextCommand.TheVariants.{Synth, Check}
 use Rattle.tcount_top.specs.declared.command.Command.{Command}
-use Rattle.tcount_top.specs.declared.command.Command.TheVariants.{OverText, Levels}
+use Rattle.tcount_top.specs.declared.command.Command.TheVariants.{OverText, Levels, Bench}
 use Rattle.qasm_lex.specs.Tokens.{Bad}
 use Rattle.qasm_reader.specs.Read.{Reads, Refused as IsRefused}
 use Rattle.qasm_reader.specs.Halves.{HasHalves, HasNoHalves}
@@ -18,6 +18,7 @@ use Rattle.count_checker.specs.Check.{most_h_gates, AreSame, IsTooManyH}
 use Rattle.tcount_top.specs.Words.{Spell, IsCommand}
 use Rattle.tcount_top.specs.Lines.{usage_line, too_long_line, refusal_line, limit_line, no_halves_line, many_h_line, same_line, different_line, above_line, levels_line}
 use Rattle.tcount_top.specs.Printed.{IsRestThenWord, word_texts}
+use Rattle.tcount_top.specs.Bench.{BenchOut}
 
 -- the most bytes that a text may have
 abbrev pub longest : ℕ
@@ -100,10 +101,11 @@ abbrev pub TextOut : TextCommand → List ℕ → Status → List ℕ → Type 0
 TextOut (Synth bound workers) text status bytes = SynthOut bound text status bytes
 TextOut Check text status bytes = CheckOut text status bytes
 
--- the outcomes of a command for a text; `levels` doesn't look at it
+-- the outcomes of a command for a text; `levels` and `bench` don't look at it
 abbrev pub CommandOut : Command → List ℕ → Status → List ℕ → Type 0
 CommandOut (OverText command) text status bytes = TextOut command text status bytes
 CommandOut (Levels qubits top workers) text status bytes = (status ≡ Found) × (bytes ≡ levels_line qubits top)
+CommandOut (Bench qubits letters seed bound workers) text status bytes = BenchOut qubits letters seed bound status bytes
 
 -- the outcomes for words and a text
 pub data Out (words : List (List ℕ)) (text : List ℕ) (status : Status) (bytes : List ℕ) : Type 0 where

@@ -1,10 +1,10 @@
 -- The words of the command line, behind the program's name, and the command that they are.
-use Rattle.std.specs.Prelude.{⊤, ◌≡◌, ℕ, ◌<◌, ◌≤◌, ◌^◌, List, [], ◌∷◌, map, codes, decimal}
+use Rattle.std.specs.Prelude.{⊤, ◌≡◌, ℕ, ◌*◌, ◌<◌, ◌≤◌, ◌^◌, List, [], ◌∷◌, map, codes, decimal}
 use Rattle.coset_label.specs.Words.{most_letters}
 use Rattle.tcount_top.specs.declared.command.TextCommand.{TextCommand}
 use Rattle.tcount_top.specs.declared.command.TextCommand.TheVariants.{Synth, Check}
 use Rattle.tcount_top.specs.declared.command.Command.{Command}
-use Rattle.tcount_top.specs.declared.command.Command.TheVariants.{OverText, Levels}
+use Rattle.tcount_top.specs.declared.command.Command.TheVariants.{OverText, Levels, Bench}
 use denote.Ref.{Bor}
 
 -- the words' bytes
@@ -33,6 +33,16 @@ pub record IsLevels (words : List (List ℕ)) (qubits top workers : ℕ) : Type 
   pub low : top ≤ most_letters qubits
   pub crew : AreWorkers workers
 
+-- `bench N T SEED M W`: 1 to 3 qubits, at most 44 letters, a seed, a bound within the limit, and workers
+pub record IsBench (words : List (List ℕ)) (qubits letters seed bound workers : ℕ) : Type 0 where
+  pub spelled : words ≡ codes "bench" ∷ decimal qubits ∷ decimal letters ∷ decimal seed ∷ decimal bound ∷ decimal workers ∷ []
+  pub some : 1 ≤ qubits
+  pub few : qubits ≤ 3
+  pub short : letters ≤ 44
+  pub seeds : seed < 2 ^ 31
+  pub low : bound ≤ 2 * most_letters qubits
+  pub crew : AreWorkers workers
+
 -- `check`, alone
 abbrev pub IsCheck : List (List ℕ) → Type 0
 IsCheck words = words ≡ codes "check" ∷ []
@@ -46,6 +56,7 @@ SpellText words Check = IsCheck words
 abbrev pub Spell : List (List ℕ) → Command → Type 0
 Spell words (OverText command) = SpellText words command
 Spell words (Levels qubits top workers) = IsLevels words qubits top workers
+Spell words (Bench qubits letters seed bound workers) = IsBench words qubits letters seed bound workers
 
 -- the words are a command
 abbrev pub IsCommand : List (List ℕ) → Type 0

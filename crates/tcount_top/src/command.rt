@@ -31,10 +31,29 @@ pub(crate) enum Command {
         /// The number of workers, 1 to 8.
         workers: u32,
     },
+    /// The least T-count of a circuit that a seed makes, where it is at most the bound.
+    Bench {
+        /// The number of qubits, 1 to 3.
+        qubits: u8,
+        /// The number of letters of the made circuit's word, at most 44.
+        letters: u8,
+        /// The seed, below 2^31.
+        seed: u32,
+        /// The most T gates: at most 18, 12 or 8 on one, two or three qubits.
+        bound: u8,
+        /// The number of workers, 1 to 8.
+        workers: u32,
+    },
 }
 
 /// The most digits of a number.
 const MOST_DIGITS: usize = 10;
+
+/// The most letters of a made circuit's word.
+const MOST_LETTERS: u32 = 44;
+
+/// The last seed of a made circuit.
+const LAST_SEED: u32 = 2_147_483_647;
 
 /// Whether a word begins with a digit from 1 to 9.
 fn begins_plainly(word: &[u8]) -> bool
@@ -128,6 +147,37 @@ fn levels(name: &str, qubits: &str, top: &str, workers: &str) -> Option<Command>
     })
 }
 
+/// The command `bench`, where six words are it.
+fn bench(
+    name: &str,
+    qubits: &str,
+    letters: &str,
+    seed: &str,
+    bound: &str,
+    workers: &str,
+) -> Option<Command>
+    ensures some { IfSome result (λ command.
+        Spell (name.now ∷ qubits.now ∷ letters.now ∷ seed.now ∷ bound.now ∷ workers.now ∷ []) command) }
+    ensures none { IfNone result
+        (IsCommand (name.now ∷ qubits.now ∷ letters.now ∷ seed.now ∷ bound.now ∷ workers.now ∷ []) → ⊥) }
+{
+    if name != "bench" {
+        return None;
+    }
+    let qubits = number_within(qubits, 1, 3)? as u8;
+    let letters = number_within(letters, 0, MOST_LETTERS)? as u8;
+    let seed = number_within(seed, 0, LAST_SEED)?;
+    let bound = number_within(bound, 0, 2 * most_letters(qubits) as u32)? as u8;
+    let workers = number_within(workers, 1, 8)?;
+    Some(Command::Bench {
+        qubits,
+        letters,
+        seed,
+        bound,
+        workers,
+    })
+}
+
 impl Command {
     /// The command that words are. It takes no memory.
     pub(crate) fn of_words(words: &[&str]) -> Option<Command>
@@ -138,6 +188,9 @@ impl Command {
             [name] => check(name),
             [name, bound, workers] => synth(name, bound, workers),
             [name, qubits, top, workers] => levels(name, qubits, top, workers),
+            [name, qubits, letters, seed, bound, workers] => {
+                bench(name, qubits, letters, seed, bound, workers)
+            }
             _ => None,
         }
     }

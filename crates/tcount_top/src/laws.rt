@@ -49,6 +49,7 @@ pub fn one_outcome()
     read_circuits_are_small();
     least_counts_are_lengths();
     printed_once();
+    cosets_have_least_words();
 }
 
 /// Words that are a command have an outcome for each text: with [`one_outcome`] exactly one.

@@ -29,7 +29,7 @@ use tc_circuit::{Circuit, Gate};
 const LONGEST_BLOCK: usize = 17;
 
 /// The letters of a word.
-fn letters_of(alloc: Global, word: &Word2) -> Result<Vec<Pauli>, AllocError>
+pub(crate) fn letters_of(alloc: Global, word: &Word2) -> Result<Vec<Pauli>, AllocError>
     ensures qubits { IfOk result (λ v. All (λ p. p.qubits ≡ word.now.first.qubits) v.items) }
     ensures other { IfOk result (λ v. All (λ p. p.code ≢ 0) v.items) }
     ensures codes { IfOk result (λ v. codes_of v.items
@@ -75,10 +75,10 @@ fn left_without(alloc: Global, channel: &Channel, letters: &[Pauli]) -> Result<C
 }
 
 /// The blocks of letters, the last letter's first.
-fn blocks_of(alloc: Global, n: u8, letters: &[Pauli]) -> Result<Vec<Gate>, AllocError>
+pub(crate) fn blocks_of(alloc: Global, n: u8, letters: &[Pauli]) -> Result<Vec<Gate>, AllocError>
     requires qubits { All (λ p. p.qubits ≡ n) letters.now }
     requires other { All (λ p. p.code ≢ 0) letters.now }
-    requires few { length letters.now ≤ 18 }
+    requires few { length letters.now ≤ 44 }
     ensures blocks { IfOk result (λ gates. gates.items ≡ word_gates n (codes_of letters.now)) }
     ensures circuit { IfOk result (λ gates. IsCircuit n gates.items) }
     ensures count { IfOk result (λ gates. t_count_of gates.items ≡ length letters.now) }
@@ -92,7 +92,7 @@ fn blocks_of(alloc: Global, n: u8, letters: &[Pauli]) -> Result<Vec<Gate>, Alloc
 }
 
 /// Puts gates behind a circuit.
-fn push_all(circuit: &mut Circuit, gates: &[Gate]) -> Result<(), AllocError>
+pub(crate) fn push_all(circuit: &mut Circuit, gates: &[Gate]) -> Result<(), AllocError>
     requires { IsCircuit circuit.old.qubits gates.now }
     ensures qubits { circuit.new.qubits ≡ circuit.old.qubits }
     ensures gates { OnOk result (circuit.new.gates ≡ circuit.old.gates ++ gates.now) }

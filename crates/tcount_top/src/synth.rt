@@ -9,18 +9,17 @@ use crate::Status;
 use crate::command::most_letters;
 use crate::lines::{above, past_limit, refusal};
 use crate::print::printed;
-use level_store::Levels;
+use crate::search::search;
 use meet_laws::laws::least_counts_are_lengths;
-use meet_middle::{Answer, least_word};
+use meet_middle::Answer;
 use qasm_reader::{ReadFault, read, read_circuits_are_small};
 use std::alloc::{AllocError, Global};
 use std::thread::Threads;
 use steal_sweep::Turnstile;
-use tc_bridge::channel_of;
 use tc_circuit::Circuit;
 
-/// The outcome for a circuit and a bound within its limit: its least word is looked for, total by total.
-fn search<H: Threads + Sync, G: Turnstile + Sync>(
+/// The outcome for a circuit and a bound within its limit.
+fn answer_within<H: Threads + Sync, G: Turnstile + Sync>(
     th: &H,
     alloc: Global,
     circuit: &Circuit,
@@ -37,9 +36,8 @@ fn search<H: Threads + Sync, G: Turnstile + Sync>(
 {
     least_counts_are_lengths();
     read_circuits_are_small();
-    let channel = channel_of(alloc, circuit)?;
-    let mut levels = Levels::start(alloc, circuit.qubits())?;
-    match least_word(th, alloc, &mut levels, &channel, bound, workers, gate)? {
+    let (channel, answer) = search(th, alloc, circuit, bound, workers, gate)?;
+    match answer {
         Answer::Least(word) => {
             let bytes = printed(alloc, &channel, &word)?;
             Ok((Status::Found, bytes))
@@ -71,7 +69,7 @@ fn answer_for<H: Threads + Sync, G: Turnstile + Sync>(
         let line = past_limit(alloc, bound, limit)?;
         return Ok((Status::Refused, line));
     }
-    search(th, alloc, circuit, bound as u8, workers, gate)
+    answer_within(th, alloc, circuit, bound as u8, workers, gate)
 }
 
 /// The status and the bytes of the outcome for a text of at most 65,536 bytes and a bound.

@@ -1,5 +1,6 @@
 use super::*;
 
+mod bench;
 mod gates;
 mod hostile;
 mod made;
@@ -37,7 +38,7 @@ fn answer<H: Threads + Sync, G: Turnstile + Sync>(
 #[test]
 fn usage(rt: HostRuntime) -> Result<(), Fail> {
     let line = "usage: synth M W | check | levels N K W | bench N T SEED M W\n";
-    let rows: [&[&str]; 22] = [
+    let rows: [&[&str]; 28] = [
         &["synth", "5", "9"],
         &["synth", "5", "0"],
         &["synth", "0", "1", "1"],
@@ -59,6 +60,12 @@ fn usage(rt: HostRuntime) -> Result<(), Fail> {
         &["levels", "2", "7", "1"],
         &["levels", "3", "5", "1"],
         &["levels", "3", "1", "9"],
+        &["bench", "1", "3", "0", "5"],
+        &["bench", "4", "3", "0", "5", "1"],
+        &["bench", "1", "45", "0", "5", "1"],
+        &["bench", "1", "3", "2147483648", "5", "1"],
+        &["bench", "3", "3", "0", "9", "1"],
+        &["bench", "1", "3", "0", "5", "9"],
         &[],
     ];
     for words in rows {
@@ -345,8 +352,7 @@ fn comparisons(rt: HostRuntime) -> Result<(), Fail> {
         ),
     ];
     for (text, status, bytes) in rows {
-        let (answered, written) =
-            answer(&rt, rt.alloc(), &["check"], text.as_bytes(), &OpenWay)?;
+        let (answered, written) = answer(&rt, rt.alloc(), &["check"], text.as_bytes(), &OpenWay)?;
         assert_eq!(rt; answered, status, "{text:?}");
         assert!(rt; written.as_slice() == bytes.as_bytes(), "{text:?}");
     }
@@ -370,7 +376,10 @@ fn many_h_gates(rt: HostRuntime) -> Result<(), Fail> {
         text.extend_from_slice(&behind)?;
         let (answered, written) = answer(&rt, rt.alloc(), &["check"], &text, &OpenWay)?;
         assert_eq!(rt; answered, status, "{first} and {second}");
-        assert!(rt; written.as_slice() == bytes.as_bytes(), "{first} and {second}");
+        assert!(rt;
+            written.as_slice() == bytes.as_bytes(),
+            "{first} and {second}"
+        );
     }
     for (spaces, bytes) in [(65536, "refused 16\n"), (65537, "refused 14\n")] {
         let text = repeated(rt.alloc(), "", " ", spaces)?;

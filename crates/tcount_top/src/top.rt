@@ -1,11 +1,13 @@
 //! The top call.
-ghost use Rattle.std.specs.Prelude.{◌≡◌, ◌⊎◌, ◌≤◌, ℕ, List, IfOk, length};
+ghost use Rattle.std.specs.Prelude.{◌≡◌, ◌⊎◌, ◌<◌, ◌≤◌, ◌^◌, ℕ, List, IfOk, length};
 ghost use Rattle.tcount_top.specs.Words.{texts_of, SpellText, IsCommand, AskText, HasCrew};
-ghost use Rattle.tcount_top.specs.Out.{TextOut, longest};
+ghost use Rattle.tcount_top.specs.Out.{TextOut, longest, most_bound};
+ghost use Rattle.tcount_top.specs.Bench.{BenchOut};
 ghost use Rattle.tcount_top.specs.Lines.{usage_line, levels_line};
 ghost use Rattle.tcount_top.specs.Run.{Answers, Responds};
 ghost use Rattle.coset_label.specs.Words.{most_letters};
 
+use crate::bench::bench;
 use crate::check::check;
 use crate::command::{Command, TextCommand};
 use crate::lines::{TOO_LONG, USAGE};
@@ -19,7 +21,7 @@ use tc_io::{Failed, ReadAllFault, Sink, Source, read_all, write_all};
 /// How a run ends.
 #[derive(Clone, Copy, Debug, PartialEq, Eq)]
 pub enum Status {
-    /// A circuit was found within the bound, two programs are the same, or the sizes of levels were found.
+    /// A circuit or a least word was found within the bound, two programs are the same, or the sizes of levels were found.
     Found,
     /// Each circuit has more T gates than the bound, or two programs differ.
     Above,
@@ -161,6 +163,43 @@ fn run_levels<H: Threads + Sync, K: Sink, G: Turnstile + Sync>(
     }
 }
 
+/// Writes what `bench` answers.
+fn run_bench<H: Threads + Sync, K: Sink, G: Turnstile + Sync>(
+    th: &H,
+    alloc: Global,
+    qubits: u8,
+    letters: u8,
+    seed: u32,
+    bound: u8,
+    workers: u32,
+    sink: &mut K,
+    gate: &G,
+) -> Status
+    requires some { 1 ≤ qubits }
+    requires few { qubits ≤ 3 }
+    requires letters { letters ≤ 44 }
+    requires seed { seed < 2 ^ 31 }
+    requires bound { bound ≤ most_bound qubits }
+    requires any { 1 ≤ workers }
+    requires crew { workers ≤ 8 }
+    ensures answers { (result ≡ Status.NoMemory) ⊎ ((status : Status) × (bytes : List ℕ)
+        × BenchOut qubits letters seed bound status bytes
+        × Responds (record {
+          bytes_before = K.written sink.old;
+          bytes_after = K.written sink.new;
+          faults_before = K.faults sink.old;
+          faults_after = K.faults sink.new;
+        }) bytes status result) }
+    ensures unwritten { (result ≡ Status.NoMemory) ⊎ (result ≡ Status.ReadFault) → sink.new ≡ sink.old }
+    ensures no_usage { result ≡ Status.Usage → ⊥ }
+    ensures writes { K.faults sink.old ≤ K.faults sink.new }
+{
+    match bench(th, alloc, qubits, letters, seed, bound, workers, gate) {
+        Ok((status, line)) => respond(sink, &line, status),
+        Err(AllocError) => Status::NoMemory,
+    }
+}
+
 /// Does what the words ask for: reads the source, writes the outcome to the sink, and answers its status. It returns for
 /// every input.
 ///
@@ -231,6 +270,15 @@ pub fn run<H: Threads + Sync, S: Source, K: Sink, G: Turnstile + Sync>(
                 workers,
             },
         ) => run_levels(th, alloc, qubits, top, workers, sink, gate),
+        Some(
+            Command::Bench {
+                qubits,
+                letters,
+                seed,
+                bound,
+                workers,
+            },
+        ) => run_bench(th, alloc, qubits, letters, seed, bound, workers, sink, gate),
         None => respond(sink, USAGE, Status::Usage),
     }
 }

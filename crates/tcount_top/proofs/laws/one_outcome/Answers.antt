@@ -24,6 +24,7 @@ returns-clause-one c = one_outcome
       none_never_bad = c.one_halving.ensures.none_never_bad;
     }
     c.printed_once.ensures
+    c.cosets_have_least_words.ensures.unique
 
 pub returns-clause-counted : goal.returns-clause-counted
 returns-clause-counted c = λ text x h.

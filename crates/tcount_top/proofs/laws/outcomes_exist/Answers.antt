@@ -9,6 +9,7 @@ returns c =
     record {
       tables = c.tables_compare.ensures;
       built = c.circuits_have_one_channel.ensures.built;
+      exist = counts.exists;
       lengths = counts.lengths;
       permutes = c.words_stand_behind_rests.ensures.permutation;
       grids = c.words_stand_behind_rests.ensures.grid;

@@ -1,8 +1,8 @@
-use Rattle.std.proofs.Common.{refl, ap, subst}
+use Rattle.std.proofs.Common.{refl, ap, subst, inl}
 use Rattle.tcount_top.specs.declared.command.Command.{Command}
-use Rattle.tcount_top.specs.Words.{texts_of, Spell, SpellText, IsLevels}
+use Rattle.tcount_top.specs.Words.{texts_of, Spell, SpellText, IsLevels, IsBench}
 use Rattle.tcount_top.specs.Lines.{usage_line}
-use Rattle.tcount_top.proofs.Answering.{usage_answers, levels_answers}
+use Rattle.tcount_top.proofs.Answering.{usage_answers, levels_answers, bench_answers}
 use Rattle.tcount_top.proofs.top.run.Goals as goal
 
 pub returns-in-Some-OverText-clause-answers : goal.returns-in-Some-OverText-clause-answers
@@ -14,7 +14,14 @@ pub returns-in-Some-Levels-clause-answers : goal.returns-in-Some-Levels-clause-a
 returns-in-Some-Levels-clause-answers g c =
     let words = texts_of c.args.words.now in
     let is : IsLevels words c.in-Some-Levels.qubits c.in-Some-Levels.top c.in-Some-Levels.workers = subst (λ (x : Command). Spell words x) c.in-Some-Levels.field-0-is c.in-Some-Levels.ensures.some in
-    levels_answers words _ _ c.in-Some-Levels.qubits c.in-Some-Levels.top c.in-Some-Levels.workers is _ refl refl (λ e. ap (g.K.Sink.written) (c.run_levels.ensures.unwritten e)) c.run_levels.ensures.answers
+    levels_answers words _ _ _ refl refl (λ e. ap (g.K.Sink.written) (c.run_levels.ensures.unwritten e)) c.in-Some-Levels.qubits c.in-Some-Levels.top c.in-Some-Levels.workers is c.run_levels.ensures.answers
+
+pub returns-in-Some-Bench-clause-answers : goal.returns-in-Some-Bench-clause-answers
+returns-in-Some-Bench-clause-answers g c =
+    let words = texts_of c.args.words.now in
+    let at = c.in-Some-Bench in
+    let is : IsBench words at.qubits at.letters at.seed at.bound at.workers = subst (λ (x : Command). Spell words x) at.field-0-is at.ensures.some in
+    bench_answers words _ _ _ refl refl (λ e. ap (g.K.Sink.written) (c.run_bench.ensures.unwritten (inl e))) at.qubits at.letters at.seed at.bound at.workers is c.run_bench.ensures.answers
 
 pub returns-in-None-clause-answers : goal.returns-in-None-clause-answers
 unfolding usage_line
