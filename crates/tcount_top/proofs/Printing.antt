@@ -4,6 +4,7 @@ use Rattle.std.proofs.lemmas.Bool.{cases_lt}
 use Rattle.tc_circuit.specs.Circuit.{Gates, IsSmallCircuit}
 use Rattle.tc_circuit.specs.Model.{IsCircuit, t_count_of}
 use Rattle.tc_circuit.specs.declared.circuit.Gate.{Gate}
+use Rattle.qasm_reader.specs.Limits.{most_t_gates}
 use Rattle.qasm_reader.specs.Read.{Reads}
 use Rattle.circuit_writer.specs.Shown.{IsWord, shown}
 use Rattle.channel_rep.specs.Cells.{ChannelGrid, scaled, IsReduced, IsSignedPermutation}
@@ -45,7 +46,7 @@ module _ (n : ℕ) (m : ScaledTable) (channel : IsCircuitChannel n m) (w : List 
 -- ---- the print
 -- the law that a print reads as its circuit
 abbrev pub PrintsRead : Type 0
-PrintsRead = (n t : ℕ) (gates : List Gate) (letters : List (List ℕ)) → 0 < n → n ≤ 3 → IsCircuit n gates → t_count_of gates ≤ 44 → length gates ≤ 4094
+PrintsRead = (n t : ℕ) (gates : List Gate) (letters : List (List ℕ)) → 0 < n → n ≤ 3 → IsCircuit n gates → t_count_of gates ≤ most_t_gates → length gates ≤ 4094
     → IsWord n t letters → Reads (shown n gates letters) (record { qubits = n; gates = gates })
 
 -- the bytes show a rest with the blocks of the least word of m behind it
