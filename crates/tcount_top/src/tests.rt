@@ -255,8 +255,10 @@ fn limits(rt: HostRuntime) -> Result<(), Fail> {
         "// t-count 0\n// word\nOPENQASM 2.0;\ninclude \"qelib1.inc\";\nqreg q[1];\ns q[0];\ns q[0];\n";
     let rows = [
         (one, "t q[0];\n", 44, Status::Found, z),
-        (one, "t q[0];\n", 45, Status::Refused, "refused 9 at 377\n"),
-        (one, "t q[0];\nh q[0];\n", 44, Status::Above, "above 0\n"),
+        (one, "t q[0];\n", 45, Status::Above, "above 0\n"),
+        (one, "t q[0];\n", 120, Status::Found, nothing),
+        (one, "t q[0];\n", 121, Status::Refused, "refused 9 at 985\n"),
+        (one, "t q[0];\nh q[0];\n", 120, Status::Above, "above 0\n"),
         (one, "h q[0];\n", 120, Status::Found, nothing),
         (one, "h q[0];\n", 4095, Status::Found, h),
         (

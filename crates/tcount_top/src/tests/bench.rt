@@ -45,7 +45,15 @@ fn lines(rt: HostRuntime) -> Result<(), Fail> {
     let line = "bench 2 2 0 gates 6 t-count 2 word IX XI\n";
     assert!(rt; answers(&rt, alloc, ["2", "2", "0", "2"], Status::Found, line)?);
     let line = "bench 3 0 2147483647 gates 0 t-count 0 word\n";
-    assert!(rt; answers(&rt, alloc, ["3", "0", "2147483647", "0"], Status::Found, line)?);
+    assert!(rt;
+        answers(
+            &rt,
+            alloc,
+            ["3", "0", "2147483647", "0"],
+            Status::Found,
+            line
+        )?
+    );
     Ok(())
 }
 

@@ -58,11 +58,21 @@ fn word_of(number: u64) -> &'static str {
     }
 }
 
-/// The text of a circuit by a seed, on two qubits with at most four T gates, or on three with at most three; and how many it
-/// has, as a word.
+/// How many T gates a seed asks for: at most four on two qubits, and on three at most three or, each tenth time, four.
+fn count_by(seed: u64, qubits: u64) -> u64
+    requires { qubits ≤ 3 }
+{
+    if seed % 20 == 1 {
+        4
+    } else {
+        mixed(seed, 0) % (7 - qubits)
+    }
+}
+
+/// The text of a circuit by a seed, on two or three qubits with at most four T gates; and how many it has, as a word.
 pub fn circuit(alloc: Global, seed: u64) -> Result<(Vec<u8>, &'static str), AllocError> {
     let qubits = qubits_by(seed);
-    let count = mixed(seed, 0) % (7 - qubits);
+    let count = count_by(seed, qubits);
     let mut text = format!(in alloc; "OPENQASM 2.0;\nqreg q[{qubits}];\n")?;
     for number in 0..count {
         push_layer(&mut text, qubits, seed, number)?;
