@@ -366,8 +366,9 @@ const LATE: [(&[u8], u8); 4] = [(b"h q;", 10), (b"foo q;", 4), (b";", 3), (b"h q
 #[test]
 fn a_statement_too_many(rt: HostRuntime) {
     for (line, number) in LATE {
-        let mut text =
-            repeated(rt.alloc(), b"h q[0];\n", MOST_STATEMENTS - 1).expect(&rt, "memory");
+        let mut text = repeated(rt.alloc(), b"h q[0];\n", MOST_STATEMENTS - 1).expect(
+            &rt, "memory",
+        );
         text.extend_from_slice(line).expect(&rt, "memory");
         assert_eq!(rt;
             refusal(rt.alloc(), &text),
