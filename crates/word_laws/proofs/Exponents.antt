@@ -2,7 +2,7 @@
 use Rattle.std.proofs.Common.{◌≡◌, ◌≢◌, ◌↔◌, ℕ, suc, ◌+◌, ◌-◌, ◌^◌, ◌<◌, ◌≤◌, Bool, true, false, ap, sym, ◌∙◌, arith, inl, inr}
 use Rattle.std.proofs.lemmas.Bool.{cases_eq, cases_lt}
 use Rattle.ring_laws.proofs.Ring.{mul_left_comm}
-use Rattle.tc_ring.specs.Surds.{Surd, surd_times, root2_surd}
+use Rattle.tc_ring.specs.Surds.{surd_times, root2_surd}
 use Rattle.tc_ring.proofs.Surds.{surds_laws, cancel_root2_power}
 use Rattle.channel_rep.specs.Products.{table_product}
 use Rattle.channel_rep.specs.Tables.{SurdTable, ScaledTable, stepped, SameTable}
@@ -12,7 +12,7 @@ use Rattle.channel_rep.proofs.Least.{odd_has_least}
 use Rattle.channel_rep.proofs.Products.{tables_right}
 use Rattle.channel_rep.proofs.Rules.{rotation_rule}
 use Rattle.channel_rep.proofs.Undone.{turned}
-use Rattle.coset_label.specs.Labels.{HasOddEntry, HasLeastExponent}
+use Rattle.coset_label.specs.Labels.{HasLeastExponent}
 use Rattle.coset_label.proofs.Exponents.{least_of_coset}
 use Rattle.coset_label.proofs.OneCoset.{same_coset_of_same}
 use Rattle.word_laws.specs.Divisions.{IsMultiple, IsDivisionCount, letter_step}

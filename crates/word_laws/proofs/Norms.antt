@@ -4,8 +4,7 @@ use Rattle.std.proofs.Common.{◌≡◌, ◌≢◌, ℕ, ◌+◌, ◌^◌, ◌<�
 use Rattle.std.specs.Prelude.{ℤ, pos, ◌+ℤ◌, ◌*ℤ◌}
 use Rattle.std.proofs.lemmas.Bool.{cases_eq}
 use Rattle.std.proofs.lemmas.Int.{ints}
-use Rattle.ring_laws.specs.Ring.{integers}
-use Rattle.ring_laws.specs.Matrix.{sum, product}
+use Rattle.ring_laws.specs.Matrix.{product}
 use Rattle.ring_laws.proofs.Sums.{sum_cong, mul-sum}
 use Rattle.ring_laws.proofs.Integers.{integers_laws}
 use Rattle.ring_laws.proofs.Reader.{ring, reads}

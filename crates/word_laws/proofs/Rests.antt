@@ -1,13 +1,9 @@
 -- A word's inverse before a channel leaves a signed permutation exactly where the channel is in the word's coset.
-use Rattle.std.proofs.Common.{◌≡◌, ◌≢◌, ℕ, suc, ◌+◌, ◌^◌, ◌<◌, ◌≤◌, true, false, List, [], ◌∷◌, refl, ap, sym, ◌∙◌, subst, arith, inl, inr}
-use Rattle.ring_laws.specs.Ring.{power}
-use Rattle.ring_laws.specs.Matrix.{product, Agree}
-use Rattle.ring_laws.proofs.Ring.{mul_left_comm}
-use Rattle.ring_laws.proofs.Sums.{product_assoc, identity-product}
-use Rattle.tc_ring.specs.Surds.{Surd, surds, surd_times, root2_surd}
-use Rattle.tc_ring.proofs.Surds.{surds_laws, surd_times_assoc, cancel_root2_power}
-use Rattle.channel_rep.specs.Tables.{ScaledTable, Step, by_rotation, by_inverse_rotation, stepped, SameTable, rotation_table, IsCircuitChannel}
-use Rattle.channel_rep.specs.Rows.{rotated}
+use Rattle.std.proofs.Common.{◌≡◌, ℕ, ◌^◌, ◌<◌, ◌≤◌, true, false, List, [], ◌∷◌, refl, ap, sym, ◌∙◌, subst, arith, inl, inr}
+use Rattle.ring_laws.specs.Matrix.{product}
+use Rattle.tc_ring.specs.Surds.{surds, surd_times}
+use Rattle.tc_ring.proofs.Surds.{cancel_root2_power}
+use Rattle.channel_rep.specs.Tables.{ScaledTable, Step, by_rotation, by_inverse_rotation, stepped, SameTable, IsCircuitChannel}
 use Rattle.channel_rep.specs.Words.{IsWord}
 use Rattle.channel_rep.specs.Products.{table_product, table_of_step}
 use Rattle.channel_rep.proofs.Built.{root2_to, same_table_sym, same_table_trans}

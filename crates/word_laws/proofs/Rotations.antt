@@ -1,7 +1,7 @@
 -- A rotation of a table, row by row: the pairs of rows that anticommute with it, and tables that agree.
 use Rattle.std.proofs.Common.{◌≡◌, ℕ, ◌^◌, ◌<◌, ◌≢◌, Bool, true, false, not, ap, ◌∙◌}
 use Rattle.std.specs.Prelude.{if◌then◌else◌}
-use Rattle.tc_ring.specs.Surds.{Surd, surd_plus, surd_times, root2_surd}
+use Rattle.tc_ring.specs.Surds.{surd_plus, surd_times, root2_surd}
 use Rattle.pauli_basis.specs.Products.{product_code, commute, anti_sign}
 use Rattle.pauli_basis.proofs.Products.{product_code-lt, product_code-back, commute-back, anti_sign-back}
 use Rattle.channel_rep.specs.Products.{table_product}

@@ -1,14 +1,13 @@
 -- The channel of a word is 0 outside the blocks of its letters' span.
-use Rattle.std.proofs.Common.{◌≡◌, ◌≢◌, ℕ, ◌^◌, ◌<◌, Bool, true, false, List, [], ◌∷◌, ◌++◌, bit_xor, not, refl, ap, sym, ◌∙◌, subst, inl, inr}
+use Rattle.std.proofs.Common.{◌≡◌, ◌≢◌, ℕ, ◌^◌, ◌<◌, Bool, true, false, List, [], ◌∷◌, bit_xor, not, ap, sym, ◌∙◌, subst, inl, inr}
 use Rattle.std.specs.Int.Bits.{xor_self, xor_assoc}
 use Rattle.std.specs.Prelude.{if◌then◌else◌}
-use Rattle.ring_laws.specs.Matrix.{identity}
 use Rattle.ring_laws.proofs.Ring.{mul-zero}
-use Rattle.tc_ring.specs.Surds.{surds, surd_plus, surd_times, zero_surd, root2_surd}
+use Rattle.tc_ring.specs.Surds.{surd_plus, surd_times, zero_surd, root2_surd}
 use Rattle.tc_ring.proofs.Surds.{surds_laws, surd_plus-zero, cancel_root2_power}
 use Rattle.pauli_basis.specs.Products.{product_code, commute, anti_sign}
 use Rattle.pauli_basis.proofs.Products.{product_code-lt}
-use Rattle.channel_rep.specs.Tables.{SurdTable, ScaledTable, Step, by_rotation, stepped, built_on, built, IsBuiltOf, signed, turned_over}
+use Rattle.channel_rep.specs.Tables.{SurdTable, ScaledTable, by_rotation, stepped, built, IsBuiltOf, signed, turned_over}
 use Rattle.channel_rep.specs.Rows.{rotated}
 use Rattle.channel_rep.specs.Words.{IsWord}
 use Rattle.channel_rep.specs.Products.{identity_table}
