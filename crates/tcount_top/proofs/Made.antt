@@ -10,6 +10,7 @@ use Rattle.tc_bridge.specs.Steps.{steps_of}
 use Rattle.level_laws.specs.Levels.{IsLeastWord, NoneBelow}
 use Rattle.level_laws.specs.Laws.{LeastWordsAreUnique}
 use Rattle.meet_laws.specs.Laws.{TablesCompare, LeastCountsExist, LeastCountsAreLengths, CountsPassBounds}
+use Rattle.tcount_top.specs.declared.top.Status.{Status}
 use Rattle.tcount_top.specs.declared.top.Status.TheVariants.{Found, Above}
 use Rattle.tcount_top.specs.Printed.{word_texts}
 use Rattle.tcount_top.specs.Bench.{next_state, state_after, drawn, code_by, made_word, made_gates, bench_head, found_end, above_end, BenchOut, found, above}

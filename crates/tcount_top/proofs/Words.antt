@@ -1,5 +1,5 @@
 -- Numbers as words, and the commands that words are.
-use Rattle.std.proofs.Common.{◌≡◌, ◌⊎◌, ℕ, zero, suc, ◌*◌, ◌^◌, ◌<◌, ◌≤◌, List, [], ◌∷◌, length, get_or, slice_index_or, Result, Ok, Err, IfSome, IfNone, refl, ap, sym, subst, ◌∙◌, inl, inr, arith}
+use Rattle.std.proofs.Common.{◌≡◌, ◌⊎◌, ℕ, zero, suc, ◌*◌, ◌^◌, ◌<◌, ◌≤◌, List, [], ◌∷◌, length, get_or, slice_index_or, Option, Some, None, Result, Ok, Err, IfSome, IfNone, refl, ap, sym, subst, ◌∙◌, inl, inr, arith}
 use Rattle.std.specs.Prelude.{codes, decimal}
 use Rattle.std.specs.Result.{result_ok}
 use Rattle.std.specs.Int.{IsInRange}
@@ -63,6 +63,11 @@ number_some word (Err e) parses low few = tt
 pub number_none : {E : Type 0} (word : List ℕ) (r : Result ℕ E) → ParsesUnsigned 64 10 word r → 48 < get_or word 0 0 → length word ≤ 10 → IfNone (result_ok r) ((n : ℕ) → IsNumber word n → ⊥)
 number_none word (Ok n) parses low few = tt
 number_none {E} word (Err e) parses low few = unparsed {E = E} word (Err e) parses low few e refl
+
+-- where there is a number, nothing is said of none
+pub if_none : {A : Type 0} (o : Option A) (P : Type 0) → P → IfNone o P
+if_none (Some x) P p = tt
+if_none None P p = p
 
 -- ---- commands
 -- three words that are a command are `synth`, a number and workers
@@ -212,7 +217,7 @@ is_bench name qubits letters seed bound workers n t s m w e a n_some n_few b sho
 
 -- ---- one command
 -- how many words a command has
-count_of : Command → ℕ
+abbrev count_of : Command → ℕ
 count_of (OverText (Synth m w)) = 3
 count_of (OverText Check) = 1
 count_of (Levels n k w) = 4
@@ -238,24 +243,24 @@ one_command words (OverText (Synth m w)) (OverText (Synth m' w')) h h' =
     let e = sym h.spelled ∙ h'.spelled in
     let bound = one_at _ _ e 1 m m' refl refl h.number h'.number in
     let crew = one_at _ _ e 2 w w' refl refl (omega (arith, h.crew.1)) (omega (arith, h'.crew.1)) in λ i. OverText (Synth (bound i) (crew i))
-one_command words (OverText (Synth m w)) (OverText Check) h h' = apart words _ _ h h' (λ e. omega (arith, e))
-one_command words (OverText (Synth m w)) (Levels n k v) h h' = apart words _ _ h h' (λ e. omega (arith, e))
-one_command words (OverText (Synth m w)) (Bench n t s b v) h h' = apart words _ _ h h' (λ e. omega (arith, e))
-one_command words (OverText Check) (OverText (Synth m w)) h h' = apart words _ _ h h' (λ e. omega (arith, e))
+one_command words (OverText (Synth m w)) (OverText Check) h h' = apart words (OverText (Synth m w)) (OverText Check) h h' (λ e. omega (arith, e))
+one_command words (OverText (Synth m w)) (Levels n k v) h h' = apart words (OverText (Synth m w)) (Levels n k v) h h' (λ e. omega (arith, e))
+one_command words (OverText (Synth m w)) (Bench n t s b v) h h' = apart words (OverText (Synth m w)) (Bench n t s b v) h h' (λ e. omega (arith, e))
+one_command words (OverText Check) (OverText (Synth m w)) h h' = apart words (OverText Check) (OverText (Synth m w)) h h' (λ e. omega (arith, e))
 one_command words (OverText Check) (OverText Check) h h' = refl
-one_command words (OverText Check) (Levels n k v) h h' = apart words _ _ h h' (λ e. omega (arith, e))
-one_command words (OverText Check) (Bench n t s b v) h h' = apart words _ _ h h' (λ e. omega (arith, e))
-one_command words (Levels n k v) (OverText (Synth m w)) h h' = apart words _ _ h h' (λ e. omega (arith, e))
-one_command words (Levels n k v) (OverText Check) h h' = apart words _ _ h h' (λ e. omega (arith, e))
+one_command words (OverText Check) (Levels n k v) h h' = apart words (OverText Check) (Levels n k v) h h' (λ e. omega (arith, e))
+one_command words (OverText Check) (Bench n t s b v) h h' = apart words (OverText Check) (Bench n t s b v) h h' (λ e. omega (arith, e))
+one_command words (Levels n k v) (OverText (Synth m w)) h h' = apart words (Levels n k v) (OverText (Synth m w)) h h' (λ e. omega (arith, e))
+one_command words (Levels n k v) (OverText Check) h h' = apart words (Levels n k v) (OverText Check) h h' (λ e. omega (arith, e))
 one_command words (Levels n k w) (Levels n' k' w') h h' =
     let e = sym h.spelled ∙ h'.spelled in
     let qubits = one_at _ _ e 1 n n' refl refl (omega (arith, h.few)) (omega (arith, h'.few)) in
     let top = one_at _ _ e 2 k k' refl refl (omega (arith, h.low, most_nine n)) (omega (arith, h'.low, most_nine n')) in
     let crew = one_at _ _ e 3 w w' refl refl (omega (arith, h.crew.1)) (omega (arith, h'.crew.1)) in λ i. Levels (qubits i) (top i) (crew i)
-one_command words (Levels n k v) (Bench n' t s b w) h h' = apart words _ _ h h' (λ e. omega (arith, e))
-one_command words (Bench n t s b v) (OverText (Synth m w)) h h' = apart words _ _ h h' (λ e. omega (arith, e))
-one_command words (Bench n t s b v) (OverText Check) h h' = apart words _ _ h h' (λ e. omega (arith, e))
-one_command words (Bench n t s b v) (Levels n' k w) h h' = apart words _ _ h h' (λ e. omega (arith, e))
+one_command words (Levels n k v) (Bench n' t s b w) h h' = apart words (Levels n k v) (Bench n' t s b w) h h' (λ e. omega (arith, e))
+one_command words (Bench n t s b v) (OverText (Synth m w)) h h' = apart words (Bench n t s b v) (OverText (Synth m w)) h h' (λ e. omega (arith, e))
+one_command words (Bench n t s b v) (OverText Check) h h' = apart words (Bench n t s b v) (OverText Check) h h' (λ e. omega (arith, e))
+one_command words (Bench n t s b v) (Levels n' k w) h h' = apart words (Bench n t s b v) (Levels n' k w) h h' (λ e. omega (arith, e))
 one_command words (Bench n t s b v) (Bench n' t' s' b' v') h h' =
     let e = sym h.spelled ∙ h'.spelled in
     let qubits = one_at _ _ e 1 n n' refl refl (omega (arith, h.few)) (omega (arith, h'.few)) in
