@@ -1,5 +1,5 @@
 -- Numbers as words, and the commands that words are.
-use Rattle.std.proofs.Common.{◌≡◌, ◌⊎◌, ℕ, zero, suc, ◌*◌, ◌^◌, ◌<◌, ◌≤◌, List, [], ◌∷◌, length, get_or, slice_index_or, Option, Some, None, Result, Ok, Err, IfSome, IfNone, refl, ap, sym, subst, ◌∙◌, inl, inr, arith}
+use Rattle.std.proofs.Common.{◌≡◌, ◌⊎◌, ℕ, zero, suc, ◌*◌, ◌^◌, ◌<◌, ◌≤◌, List, [], ◌∷◌, length, get_or, slice_index_or, Result, Ok, Err, IfSome, IfNone, refl, ap, sym, subst, ◌∙◌, inl, inr, arith}
 use Rattle.std.specs.Prelude.{codes, decimal}
 use Rattle.std.specs.Result.{result_ok}
 use Rattle.std.specs.Int.{IsInRange}
@@ -63,11 +63,6 @@ number_some word (Err e) parses low few = tt
 pub number_none : {E : Type 0} (word : List ℕ) (r : Result ℕ E) → ParsesUnsigned 64 10 word r → 48 < get_or word 0 0 → length word ≤ 10 → IfNone (result_ok r) ((n : ℕ) → IsNumber word n → ⊥)
 number_none word (Ok n) parses low few = tt
 number_none {E} word (Err e) parses low few = unparsed {E = E} word (Err e) parses low few e refl
-
--- where there is a number, nothing is said of none
-pub if_none : {A : Type 0} (o : Option A) (P : Type 0) → P → IfNone o P
-if_none (Some x) P p = tt
-if_none None P p = p
 
 -- ---- commands
 -- three words that are a command are `synth`, a number and workers

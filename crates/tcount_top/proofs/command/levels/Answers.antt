@@ -1,7 +1,11 @@
-use Rattle.std.proofs.Common.{◌≡◌, ◌≤◌, ℕ, sym, subst, arith}
+use Rattle.std.proofs.Common.{◌≡◌, ◌≤◌, ℕ, Option, Some, None, IfNone, sym, subst, arith}
 use Rattle.coset_label.specs.Words.{most_letters}
-use Rattle.tcount_top.proofs.Words.{if_none, one_number, four_words}
+use Rattle.tcount_top.proofs.Words.{one_number, four_words}
 use Rattle.tcount_top.proofs.command.levels.Goals as goal
+
+if_none : {A : Type 0} (o : Option A) (P : Type 0) → P → IfNone o P
+if_none (Some x) P p = tt
+if_none None P p = p
 
 pub returns-in_err-top-clause-none : goal.returns-in_err-top-clause-none
 returns-in_err-top-clause-none c = if_none c.from_residual-in_err-top.result _ (λ h.
