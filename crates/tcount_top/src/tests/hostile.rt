@@ -49,7 +49,10 @@ fn each_write_fails_in_turn(rt: HostRuntime) -> Result<(), Fail> {
     for (call, written) in (0..whole.len()).step_by(PIECE).enumerate() {
         let (status, bytes) = answer_where(&rt, rt.alloc(), 4096, &[], &[call as u64 + 1])?;
         assert_eq!(rt; status, Status::WriteFault, "write {call}");
-        assert!(rt; bytes.as_slice() == &whole[..written], "write {call}");
+        assert!(rt;
+            whole.starts_with(&bytes) && bytes.len() == written,
+            "write {call}"
+        );
     }
     Ok(())
 }
