@@ -91,10 +91,10 @@ fn words_lie_in_one_coset(rt: HostRuntime) -> Result<(), Fail> {
 
 #[test]
 fn words_of_one_coset_have_equal_labels(rt: HostRuntime) -> Result<(), Fail> {
-    let mut room = Channel::identity(rt.alloc(), 1)?;
-    let mut label = Scratch::new(rt.alloc(), 1)?;
-    let mut other = Scratch::new(rt.alloc(), 1)?;
     for pair in 0..81u8 {
+        let mut room = Channel::identity(rt.alloc(), 1)?;
+        let mut label = Scratch::new(rt.alloc(), 1)?;
+        let mut other = Scratch::new(rt.alloc(), 1)?;
         let v = word(1, &[pair % 3 + 1, pair / 3 % 3 + 1])?;
         let w = word(1, &[pair / 9 % 3 + 1, pair / 27 + 1])?;
         label_of_word(v, &mut label);
