@@ -1,0 +1,5 @@
+pub mod Spans
+pub mod Blocks
+pub mod Numbers
+pub mod Weights
+pub mod Tables

@@ -1,0 +1,2 @@
+//! Quick marks of words.
+#![tactic(auto)]
