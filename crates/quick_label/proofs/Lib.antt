@@ -1,1 +1,2 @@
 pub mod SortedColumns
+pub mod FrontsExist
