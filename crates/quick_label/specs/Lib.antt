@@ -3,3 +3,6 @@ pub mod Blocks
 pub mod Numbers
 pub mod Weights
 pub mod Tables
+pub mod Columns
+pub mod ColumnParts
+pub mod ParityWords

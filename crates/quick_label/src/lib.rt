@@ -1,2 +1,10 @@
 //! Quick marks of words.
 #![tactic(auto)]
+
+mod columns;
+mod parities;
+mod sums;
+
+pub use columns::Columns;
+pub use parities::Parities;
+pub use sums::weigh_columns;

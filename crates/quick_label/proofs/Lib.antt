@@ -1,0 +1,2 @@
+pub mod ColumnParts
+pub mod ParityBits
