@@ -1,2 +1,4 @@
 pub mod SortedColumns
 pub mod FrontsExist
+pub mod ColumnParts
+pub mod ParityBits

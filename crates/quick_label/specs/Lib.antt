@@ -5,3 +5,6 @@ pub mod Weights
 pub mod Tables
 pub mod Laws
 pub mod Fronts
+pub mod Columns
+pub mod ColumnParts
+pub mod ParityWords

@@ -5,3 +5,10 @@ pub mod laws;
 mod numbers;
 
 pub use numbers::{lead_of, number_of};
+mod columns;
+mod parities;
+mod sums;
+
+pub use columns::Columns;
+pub use parities::Parities;
+pub use sums::weigh_columns;
