@@ -1,5 +1,6 @@
 pub mod Spans
 pub mod Blocks
+pub mod Rooms
 pub mod Numbers
 pub mod Weights
 pub mod Tables
@@ -8,3 +9,4 @@ pub mod Fronts
 pub mod Columns
 pub mod ColumnParts
 pub mod ParityWords
+pub mod Letters

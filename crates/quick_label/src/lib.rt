@@ -12,3 +12,12 @@ mod sums;
 pub use columns::Columns;
 pub use parities::Parities;
 pub use sums::weigh_columns;
+mod blocks;
+mod spans;
+mod turns;
+mod weights;
+
+pub use blocks::Blocks;
+pub use spans::{empty_span, widen};
+pub use turns::Turns;
+pub use weights::Weights;
