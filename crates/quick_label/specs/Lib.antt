@@ -3,3 +3,4 @@ pub mod Blocks
 pub mod Numbers
 pub mod Weights
 pub mod Tables
+pub mod Places

@@ -1,2 +1,6 @@
 //! Quick marks of words.
 #![tactic(auto)]
+
+mod places;
+
+pub use places::{place_powers, placed_sum, tag_of_sum, top_power};
