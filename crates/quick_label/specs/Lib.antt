@@ -10,3 +10,4 @@ pub mod Columns
 pub mod ColumnParts
 pub mod ParityWords
 pub mod Letters
+pub mod Places

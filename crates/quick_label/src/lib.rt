@@ -21,3 +21,6 @@ pub use blocks::Blocks;
 pub use spans::{empty_span, widen};
 pub use turns::Turns;
 pub use weights::Weights;
+mod places;
+
+pub use places::{place_powers, placed_sum, tag_of_sum, top_power};
