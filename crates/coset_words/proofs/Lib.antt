@@ -1,2 +1,3 @@
 pub mod Fronts
+pub mod Marks
 pub mod Rests

@@ -1,10 +1,11 @@
 ghost use Rattle.std.specs.Prelude.{◌≡◌, ◌≢◌, ◌<◌, ◌≤◌, length, IfOk};
 ghost use Rattle.coset_label.specs.Words.{most_letters};
 
-use crate::{exchanges, of_one_coset};
+use crate::{Mark, exchanges, mark_of, of_one_coset};
 use channel_rep::Channel;
 use coset_label::{Scratch, Word, label_of_word, same_label};
 use pauli_basis::Pauli;
+use std::alloc::Global;
 use std::test::Fail;
 
 /// A Pauli other than the identity.
@@ -104,6 +105,34 @@ fn words_of_one_coset_have_equal_labels(rt: HostRuntime) -> Result<(), Fail> {
             same_label(&label, &other),
             "{pair}"
         );
+    }
+    Ok(())
+}
+
+/// The mark of a word on one qubit.
+fn mark(codes: &[u8], alloc: Global) -> Result<Mark, Fail> {
+    let mut label = Scratch::new(alloc, 1)?;
+    label_of_word(word(1, codes)?, &mut label);
+    Ok(mark_of(&label))
+}
+
+#[test]
+fn words_of_one_coset_have_one_mark(rt: HostRuntime) -> Result<(), Fail> {
+    // Two words on one qubit, the least exponents of their channels, and whether they lie in one coset.
+    let rows: [(&[u8], &[u8], u32, u32, bool); 5] = [
+        (&[], &[2, 2], 0, 0, true),
+        (&[3], &[3, 3, 3], 1, 1, true),
+        (&[3], &[1], 1, 1, false),
+        (&[1, 2, 3], &[1, 2, 3, 3, 3], 3, 3, true),
+        (&[1, 2], &[3], 2, 1, false),
+    ];
+    for (codes, others, exponent, other_exponent, same) in rows {
+        let own = mark(codes, rt.alloc())?;
+        let other = mark(others, rt.alloc())?;
+        assert_eq!(rt; own.exponent, exponent, "{codes:?}");
+        assert_eq!(rt; other.exponent, other_exponent, "{others:?}");
+        assert_eq!(rt; own == other, same, "{codes:?} and {others:?}");
+        assert_eq!(rt; own.tag == other.tag, same, "{codes:?} and {others:?}");
     }
     Ok(())
 }
