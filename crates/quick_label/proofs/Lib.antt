@@ -2,3 +2,4 @@ pub mod SortedColumns
 pub mod FrontsExist
 pub mod ColumnParts
 pub mod ParityBits
+pub mod SetOne

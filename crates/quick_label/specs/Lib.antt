@@ -11,3 +11,5 @@ pub mod ColumnParts
 pub mod ParityWords
 pub mod Letters
 pub mod Places
+pub mod FrontRooms
+pub mod Suffixes

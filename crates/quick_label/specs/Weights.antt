@@ -18,3 +18,8 @@ doubled (suc _) z = pos 2 *ℤ z
 pub record AreTurns (n : ℕ) (commuting negative : List Bool) : Type 0 where
   pub commutes : (p row : ℕ) → p < 4 ^ n → row < 4 ^ n → slice_index_or commuting (p * 4 ^ n + row) false ≡ commute n p row
   pub signs : (p row : ℕ) → p < 4 ^ n → row < 4 ^ n → slice_index_or negative (p * 4 ^ n + row) false ≡ anti_sign n p row
+
+-- the same for one letter
+pub record IsLetterOf (n p : ℕ) (commuting negative : List Bool) : Type 0 where
+  pub commutes : (row : ℕ) → row < 4 ^ n → slice_index_or commuting row false ≡ commute n p row
+  pub signs : (row : ℕ) → row < 4 ^ n → slice_index_or negative row false ≡ anti_sign n p row

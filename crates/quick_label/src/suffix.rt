@@ -1,0 +1,209 @@
+// The word at hand, and the marks of words with one letter more before it.
+ghost use Rattle.std.specs.Prelude.{◌≡◌, ◌≢◌, ℕ, ◌+◌, ◌*◌, ◌%◌, ◌^◌, ◌<◌, ◌≤◌, ◌∷◌, [], nat_lt, if◌then◌else◌, Bool, List, IfOk, IfSome, length};
+ghost use Rattle.channel_rep.specs.Cells.{scaled, table_of, IsReduced};
+ghost use Rattle.channel_rep.specs.Tables.{SurdTable, IsBuiltOf};
+ghost use Rattle.coset_label.specs.Words.{RotationWord, IsShortWord, most_letters, word_steps};
+ghost use Rattle.coset_words.specs.Marks.{IsMarkOf};
+ghost use Rattle.label_laws.specs.Folds.{weights};
+ghost use Rattle.label_laws.specs.Sparse.{AreWeights};
+ghost use Rattle.quick_label.specs.Columns.{HoldsColumns};
+ghost use Rattle.quick_label.specs.FrontRooms.{IsFrontRoom, AreFrontSums};
+ghost use Rattle.quick_label.specs.Rooms.{AreBlocks};
+ghost use Rattle.quick_label.specs.Spans.{AreSpan};
+ghost use Rattle.quick_label.specs.Suffixes.{IsSuffix};
+ghost use Rattle.quick_label.specs.Weights.{IsLetterOf};
+
+use crate::front::{Front, find_leads, number_columns};
+use crate::places::{find_places, place_powers, placed_sum, tag_of_sum, top_power};
+use crate::{Columns, Parities, Turns, Weights, empty_span, weigh_columns, widen};
+use channel_rep::Channel;
+use coset_label::{Scratch, Word, channel_of_word, label_of_front};
+use coset_words::{Mark, mark_of};
+use pauli_basis::Pauli;
+use std::alloc::{AllocError, Global};
+use std::marker::Model;
+
+/// A word with what the marks of words with one letter more before it are made of. All of it is made once for the word.
+///
+/// No memory is taken but by `new`.
+#[derive(Drop)]
+pub struct Suffix {
+    word: Word,
+    /// The word's channel, with its least exponent.
+    channel: Channel,
+    columns: Columns,
+    parities: Parities,
+    span: Vec<bool>,
+    turns: Turns,
+    fold: Weights,
+    powers: Vec<u64>,
+    top: u64,
+    front: Front,
+}
+
+impl Model for Suffix {
+    ghost Value = { RotationWord };
+
+    ghost view = { λ s. s.word };
+
+    ghost invariant = { IsSuffix };
+}
+
+/// Makes `span` the span of a word's letters, in room for one span more.
+fn span_of(word: Word, span: &mut [bool], room: &mut [bool])
+    requires span { length span.old ≡ 4 ^ word.qubits }
+    requires room { length room.old ≡ 4 ^ word.qubits }
+    ensures span { AreSpan word.qubits word.letters span.new }
+    ensures room { length room.new ≡ length room.old }
+    ensures valid { IsShortWord word }
+{
+    empty_span(span);
+    let mut left = word.len();
+    while left > 0 {
+        left -= 1;
+        widen(span, word.letter(left).code() as usize, room);
+        span.copy_from_slice(room);
+    }
+}
+
+/// The most that the exponent behind a letter may be for the quick way. Where it is divided the sums are doubled, so the numbers
+/// have to be smaller.
+fn most_exponent_behind(divisions: u8) -> u32
+    ensures { result ≡ (if nat_lt 0 divisions then 5 else 6) }
+{
+    if divisions > 0 { 5 } else { 6 }
+}
+
+/// Writes the sums of the word's columns, by the weights of the fold and of the digits before a letter.
+fn weigh_front(
+    columns: &Columns,
+    fold: &Weights,
+    commuting: &[bool],
+    negative: &[bool],
+    p: usize,
+    divisions: u8,
+    front: &mut Front,
+)
+    ghost n: { ℕ }
+    requires room { IsFrontRoom n front.old }
+    requires columns { columns.now.size ≡ 4 ^ n }
+    requires fold { length fold.now.wholes ≡ 4 ^ n }
+    requires letter { p < 4 ^ n }
+    requires commuting { length commuting.now ≡ 4 ^ n }
+    requires negative { length negative.now ≡ 4 ^ n }
+    ensures room { IsFrontRoom n front.new }
+    ensures span { front.new.span ≡ front.old.span }
+    ensures blocks { front.new.blocks ≡ front.old.blocks }
+    ensures sums { (m : SurdTable) (span : List Bool) → IsLetterOf n p commuting.now negative.now → HoldsColumns (4 ^ n) m columns.now
+        → AreWeights (4 ^ n) (weights (4 ^ n)) fold.now.wholes fold.now.parts → AreBlocks (4 ^ n) span front.old.blocks
+        → AreFrontSums n p divisions span m front.new.folds.items front.new.highs.items front.new.lows.items }
+{
+    front.before.take_before(fold, commuting, negative, p, divisions);
+    weigh_columns(columns, front.before.wholes(), front.before.parts(), &mut front.folds);
+    front.behind.take_high(&front.blocks);
+    front.before.take_before(&front.behind, commuting, negative, p, divisions);
+    weigh_columns(columns, front.before.wholes(), front.before.parts(), &mut front.highs);
+    front.behind.take_low(&front.blocks);
+    front.before.take_before(&front.behind, commuting, negative, p, divisions);
+    weigh_columns(columns, front.before.wholes(), front.before.parts(), &mut front.lows);
+}
+
+impl Suffix {
+    /// The empty word on n qubits.
+    pub fn new(alloc: Global, n: u8) -> Result<Suffix, AllocError>
+        requires some { 0 < n }
+        requires few { n ≤ 3 }
+        ensures { IfOk result (λ s. s ≡ record { qubits = n; letters = [] }) }
+    {
+        let channel = Channel::identity(alloc, n)?;
+        let mut columns = Columns::new(alloc, n)?;
+        columns.take(&channel);
+        let mut parities = Parities::new(alloc, n)?;
+        parities.take(&channel);
+        let mut span = vec![in alloc; false; 1usize << (2 * n)]?;
+        empty_span(&mut span);
+        Ok(Suffix {
+            word: Word::empty(n),
+            channel,
+            columns,
+            parities,
+            span,
+            turns: Turns::new(alloc, n)?,
+            fold: Weights::of_fold(alloc, n)?,
+            powers: place_powers(alloc, n)?,
+            top: top_power(n),
+            front: Front::new(alloc, n)?,
+        })
+    }
+
+    /// The word at hand.
+    pub fn word(&self) -> Word
+        ensures { result ≡ self.now }
+    {
+        self.word
+    }
+
+    /// Turns to a word. Nothing is made where it is the word at hand.
+    pub fn turn_to(&mut self, word: Word)
+        requires { word.qubits ≡ self.old.qubits }
+        ensures { self.new ≡ word }
+    {
+        if self.word == word {
+            return;
+        }
+        channel_of_word(word, &mut self.channel);
+        self.channel.reduce();
+        self.columns.take(&self.channel);
+        self.parities.take(&self.channel);
+        span_of(word, &mut self.span, &mut self.front.span);
+        self.word = word;
+    }
+
+    /// The mark of the word with a letter before its first, or `None` where it has to be made the slow way.
+    fn quick_mark(&mut self, letter: Pauli) -> Option<Mark>
+        requires same { letter.qubits ≡ self.old.qubits }
+        requires other { letter.code ≢ 0 }
+        ensures word { self.new ≡ self.old }
+        ensures mark { IfSome result (IsMarkOf self.old.qubits (letter.code ∷ self.old.letters)) }
+    {
+        let p = letter.code() as usize;
+        let commuting = self.turns.commuting(p);
+        let divisions = self.parities.divisions(commuting, letter);
+        let exponent = self.channel.exponent() + 1 - divisions as u32;
+        if exponent > most_exponent_behind(divisions) {
+            return None;
+        }
+        let front = &mut self.front;
+        widen(&self.span, p, &mut front.span);
+        if !front.blocks.take(&front.span) {
+            return None;
+        }
+        let negative = self.turns.negative(p);
+        weigh_front(&self.columns, &self.fold, commuting, negative, p, divisions, front);
+        number_columns(&front.highs, &front.lows, divisions > 0, &mut front.numbers);
+        if !find_leads(&front.numbers, &front.blocks, &mut front.leads) {
+            return None;
+        }
+        find_places(&front.numbers, &front.leads, &front.blocks, &mut front.places);
+        let sum = placed_sum(0, &front.folds, &front.numbers, &front.places, &self.powers);
+        let tag = tag_of_sum(exponent, sum, divisions > 0, self.top);
+        Some(Mark { exponent, tag })
+    }
+
+    /// The mark of the word with one letter more before its first. `label` is room for the slow way, which is taken only where
+    /// numbers grow too large for the quick one.
+    pub fn mark_with(&mut self, letter: Pauli, label: &mut Scratch) -> Mark
+        requires same { letter.qubits ≡ self.old.qubits }
+        requires other { letter.code ≢ 0 }
+        requires room { label.old.qubits ≡ self.old.qubits }
+        ensures word { self.new ≡ self.old }
+        ensures room { label.new.qubits ≡ label.old.qubits }
+        ensures mark { IsMarkOf self.old.qubits (letter.code ∷ self.old.letters) result }
+    {
+        if let Some(mark) = self.quick_mark(letter) {
+            return mark;
+        }
+        label_of_front(&self.channel, letter, label);
+        mark_of(label)
+    }
+}
