@@ -1,2 +1,3 @@
 pub mod ColumnParts
+pub mod ColumnSums
 pub mod ParityBits
