@@ -1,3 +1,4 @@
 pub mod ColumnParts
 pub mod ColumnSums
+pub mod HeldParities
 pub mod ParityBits

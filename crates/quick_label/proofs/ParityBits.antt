@@ -1,9 +1,9 @@
 -- Words of bits that hold parities: a bit more at the end.
-use Rattle.std.proofs.Common.{Bool, true, false, ◌≡◌, ℕ, ◌+◌, ◌*◌, ◌%◌, ◌^◌, ◌<◌, ◌≤◌, bit_or, w64, ap, sym, ◌∙◌, subst, refl, arith}
+use Rattle.std.proofs.Common.{◌≡◌, ℕ, ◌+◌, ◌*◌, ◌%◌, ◌^◌, ◌<◌, ◌≤◌, bit_or, w64, ap, sym, ◌∙◌, subst, refl, arith}
 use Rattle.std.proofs.Math.Pow.{pow_mono}
 use Rattle.std.proofs.Math.Nat.{mod-eq_of_lt}
-use Rattle.std.specs.Int.{bit_at, from_bool}
-use Rattle.std.specs.Int.Bits.{or_shifted_r, or_zero_r}
+use Rattle.std.specs.Int.{bit_at}
+use Rattle.std.specs.Int.Bits.{or_shifted_r}
 use Rattle.std.proofs.lemmas.Nat.{pow-add}
 use Rattle.std.proofs.lemmas.Nat.Bits.{bit_at_set_same, bit_at_set_other, bit_at_above}
 
@@ -17,21 +17,16 @@ module _ (word place : ℕ) (inside : place < 64) (low : word < 2 ^ place) where
   twice : 2 ^ (place + 1) ≡ 2 ^ place * 2
   twice = pow-add 2 place 1
 
-  nothing : 0 * 2 ^ place ≡ 0
-  nothing = omega arith
-
   top : 2 ^ place ≤ 2 ^ 63
   top = pow_mono {i = place} {j = 63} (omega arith)
 
   -- which is 0
-  pub zero_more : HasOneMore word place 0 (bit_or word (0 * 2 ^ place % 2 ^ 64))
-  zero_more =
-    let same : bit_or word (0 * 2 ^ place % 2 ^ 64) ≡ word = ap (λ z. bit_or word (z % 2 ^ 64)) nothing ∙ or_zero_r word in
-    subst (HasOneMore word place 0) (sym same) (record {
-      below = omega (arith, twice);
-      kept = λ k l. refl;
-      last = bit_at_above word place place low (omega arith);
-    })
+  pub zero_more : HasOneMore word place 0 word
+  zero_more = record {
+    below = omega (arith, twice);
+    kept = λ k l. refl;
+    last = bit_at_above word place place low (omega arith);
+  }
 
   -- which is 1
   pub one_more : HasOneMore word place 1 (bit_or word (1 * 2 ^ place % 2 ^ 64))
@@ -43,12 +38,3 @@ module _ (word place : ℕ) (inside : place < 64) (low : word < 2 ^ place) where
       kept = λ k l. bit_at_set_other w64 word place inside k (λ e. omega arith);
       last = bit_at_set_same w64 word place inside;
     }
-
-  -- which is a truth value
-  test_more : (test : Bool) → HasOneMore word place (from_bool test) (bit_or word (from_bool test * 2 ^ place % 2 ^ 64))
-  test_more true = one_more
-  test_more false = zero_more
-
-  -- the same, where the bit is known by an equation
-  pub bit_more : (test : Bool) (bit : ℕ) → bit ≡ from_bool test → HasOneMore word place bit (bit_or word (bit * 2 ^ place % 2 ^ 64))
-  bit_more test bit e = subst (λ z. HasOneMore word place z (bit_or word (z * 2 ^ place % 2 ^ 64))) (sym e) (test_more test)

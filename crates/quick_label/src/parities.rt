@@ -32,7 +32,11 @@ fn with_parity(word: u64, place: usize, number: i64) -> u64
     ensures kept { (k : ℕ) → k < place → bit_at result k ≡ bit_at word k }
     ensures last { bit_at result place ≡ parity number }
 {
-    word | u64::from(number % 2 != 0) << place
+    if number % 2 == 0 {
+        word
+    } else {
+        word | 1 << place
+    }
 }
 
 /// The parities of some cells' numbers, a bit a cell: those of the whole parts, and those of the parts of √2.
