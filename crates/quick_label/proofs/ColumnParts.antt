@@ -12,7 +12,7 @@ use Rattle.tc_ring.specs.declared.root2.Root2.{Root2}
 use Rattle.channel_rep.specs.Tables.{SurdTable}
 use Rattle.channel_rep.specs.Cells.{cell_of, no_cell}
 use Rattle.label_laws.specs.Sparse.{IsSparseColumn}
-use Rattle.quick_label.specs.Columns.{StoredColumns, RowsBelow, CellsFit, HoldsColumns, IsColumnRoom}
+use Rattle.quick_label.specs.Columns.{RowsBelow, CellsFit, HoldsColumns, IsColumnRoom}
 use Rattle.quick_label.specs.ColumnParts.{IsPart, IsKeptTo}
 
 -- what stands before a place stays where something is written there
@@ -163,11 +163,11 @@ parts_more m size column end next starts rows more_rows cells more_cells parts k
   ];
   parts = λ c l. elim (cases_eq c column) [
     | inl e ↦
-      subst (λ z. IsPart m z size (slice_index new z) (slice_index new (z + 1)) more_rows more_cells) (sym e)
-      (part_between m column size end next _ _ more_rows more_cells (same column (omega arith) ∙ parts.last) new_last part)
+        subst (λ z. IsPart m z size (slice_index new z) (slice_index new (z + 1)) more_rows more_cells) (sym e)
+        (part_between m column size end next _ _ more_rows more_cells (same column (omega arith) ∙ parts.last) new_last part)
     | inr d ↦
-      part_between m c size (slice_index starts c) (slice_index starts (c + 1)) _ _ more_rows more_cells (same c (omega arith)) (same (c + 1) (omega arith))
-      (part_kept m c size _ _ end rows more_rows cells more_cells (parts.parts c (omega arith)) kept (parts.inside (c + 1) (omega arith)))
+        part_between m c size (slice_index starts c) (slice_index starts (c + 1)) _ _ more_rows more_cells (same c (omega arith)) (same (c + 1) (omega arith))
+        (part_kept m c size _ _ end rows more_rows cells more_cells (parts.parts c (omega arith)) kept (parts.inside (c + 1) (omega arith)))
   ];
 }
   where
@@ -194,8 +194,8 @@ module _ (size start end : ℕ) (rows : List ℕ) (up : start ≤ end) (room : e
   -- are below the size where all are
   pub rows_below_part : RowsBelow size rows → RowsBelow size (take (end - start) (drop start rows))
   rows_below_part h k l =
-    let low : k < end - start = omega (arith, part_length start end up rows room) in
-    omega (arith, row_at k low, h (start + k) (omega arith))
+      let low : k < end - start = omega (arith, part_length start end up rows room) in
+      omega (arith, row_at k low, h (start + k) (omega arith))
 
 -- the cells of a part
 module _ (start end : ℕ) (cells : List Root2) (up : start ≤ end) (room : end ≤ length cells) where
@@ -205,8 +205,8 @@ module _ (start end : ℕ) (cells : List Root2) (up : start ≤ end) (room : end
   -- fit where all do
   pub cells_fit_part : CellsFit cells → CellsFit (take (end - start) (drop start cells))
   cells_fit_part h k l =
-    let low : k < end - start = omega (arith, part_length start end up cells room) in
-    subst (SurdWithin (2 ^ 62)) (sym (cell_at k low)) (h (start + k) (omega arith))
+      let low : k < end - start = omega (arith, part_length start end up cells room) in
+      subst (SurdWithin (2 ^ 62)) (sym (cell_at k low)) (h (start + k) (omega arith))
 
 -- a part as lists of its own
 pub sparse_part : (m : SurdTable) (column size start end : ℕ) (rows : List ℕ) (cells : List Root2) → start ≤ end → end ≤ length rows → end ≤ length cells
@@ -214,12 +214,12 @@ pub sparse_part : (m : SurdTable) (column size start end : ℕ) (rows : List ℕ
 sparse_part m column size start end rows cells up room long part = record {
   below = λ k l. omega (arith, at k (low k l), part.below (start + k) (omega arith) (omega (arith, low k l)));
   rising = λ j k l e.
-    omega (arith, at j (omega (arith, low k e)), at k (low k e), part.rising (start + j) (start + k) (omega arith) (omega arith) (omega (arith, low k e)));
+      omega (arith, at j (omega (arith, low k e)), at k (low k e), part.rising (start + j) (start + k) (omega arith) (omega arith) (omega (arith, low k e)));
   are = λ k l.
-    cell_at start end cells up long k (low k l) ∙ part.are (start + k) (omega arith) (omega (arith, low k l)) ∙ ap (λ r. m r column) (sym (at k (low k l)));
+      cell_at start end cells up long k (low k l) ∙ part.are (start + k) (omega arith) (omega (arith, low k l)) ∙ ap (λ r. m r column) (sym (at k (low k l)));
   zeros = λ row l none. part.zeros row l (λ k s e same.
-    let back : start + (k - start) ≡ k = omega arith in
-    none (k - start) (omega (arith, part_length start end up rows room)) (at (k - start) (omega arith) ∙ ap (slice_index rows) back ∙ same));
+      let back : start + (k - start) ≡ k = omega arith in
+      none (k - start) (omega (arith, part_length start end up rows room)) (at (k - start) (omega arith) ∙ ap (slice_index rows) back ∙ same));
 }
   where
     low : (k : ℕ) → k < length (take (end - start) (drop start rows)) → k < end - start
@@ -234,6 +234,6 @@ pub columns_held : (m : SurdTable) (size : ℕ) (starts rows : List ℕ) (cells 
 columns_held m size starts rows cells room parts = record {
   as_many = refl;
   sparse = λ c l.
-    let inside : slice_index starts (c + 1) ≤ size * size = room.inside (c + 1) (omega arith) in
-    sparse_part m c size (slice_index starts c) (slice_index starts (c + 1)) rows cells (room.rising c l) (omega (arith, room.rows)) (omega (arith, room.cells)) (parts c l);
+      let inside : slice_index starts (c + 1) ≤ size * size = room.inside (c + 1) (omega arith) in
+      sparse_part m c size (slice_index starts c) (slice_index starts (c + 1)) rows cells (room.rising c l) (omega (arith, room.rows)) (omega (arith, room.cells)) (parts c l);
 }

@@ -1,6 +1,5 @@
-use Rattle.std.proofs.Common.{◌+◌, ◌<◌, length, arith}
+use Rattle.std.proofs.Common.{◌<◌, length, arith}
 use Rattle.std.proofs.Math.ListN.{length-set}
-use Rattle.tc_ring.specs.Root2.{surd_of}
 use Rattle.tc_ring.proofs.Surds.{surd_within_more}
 use Rattle.quick_label.proofs.ColumnParts.{kept_by_set, kept_twice, rows_below_set, cells_fit_set, part_stepped, step_most}
 use Rattle.quick_label.proofs.columns.write_column.Goals as goal
@@ -17,9 +16,9 @@ loop-row-preserved c =
       below = rows_below_set c.args.size c.loop-row.end c.loop-row.row c.loop-row.rows c.loop-row.invariant.below room c.loop-row-test.true;
       fit = cells_fit_set c.loop-row.end c.cell-cell.result c.loop-row.cells c.loop-row.invariant.fit long (surd_within_more _ _ _ (omega arith) c.cell-cell.ensures.small);
       column =
-        part_stepped _ c.args.column c.loop-row.row c.args.start c.loop-row.end _ c.loop-row.rows c.loop-row.cells c.cell-cell.result _ c.is_zero.ensures c.from-end.ensures
-        c.loop-row.invariant.from room long c.cell-cell.ensures.value c.loop-row.invariant.column;
+          part_stepped _ c.args.column c.loop-row.row c.args.start c.loop-row.end _ c.loop-row.rows c.loop-row.cells c.cell-cell.result _ c.is_zero.ensures c.from-end.ensures
+          c.loop-row.invariant.from room long c.cell-cell.ensures.value c.loop-row.invariant.column;
       kept =
-        kept_twice c.args.start c.loop-row.end _ _ _ _ _ _ c.loop-row.invariant.from c.loop-row.invariant.kept
-        (kept_by_set c.loop-row.end c.loop-row.row c.cell-cell.result c.loop-row.rows c.loop-row.cells);
+          kept_twice c.args.start c.loop-row.end _ _ _ _ _ _ c.loop-row.invariant.from c.loop-row.invariant.kept
+          (kept_by_set c.loop-row.end c.loop-row.row c.cell-cell.result c.loop-row.rows c.loop-row.cells);
     }

@@ -1,4 +1,4 @@
-use Rattle.std.proofs.Common.{◌≡◌, ◌+◌, ◌-◌, ◌*◌, ◌^◌, length, slice_index, ap, ◌∙◌, subst, arith}
+use Rattle.std.proofs.Common.{◌≡◌, ◌+◌, ◌-◌, ◌^◌, length, slice_index, ◌∙◌, subst, arith}
 use Rattle.std.proofs.Math.ListN.{length-set}
 use Rattle.channel_rep.specs.Cells.{table_of}
 use Rattle.quick_label.specs.ColumnParts.{IsPart}
@@ -13,9 +13,9 @@ loop-column-preserved c = record {
   below = c.write_column-end.ensures.below;
   fit = c.write_column-end.ensures.fit;
   parts =
-    parts_more (table_of c.args.channel.now) (length c.args.starts.now - 1) c.loop-column.column c.loop-column.end c.write_column-end.result c.loop-column.starts c.loop-column.rows _ c.loop-column.cells _
-    c.loop-column.invariant.parts c.write_column-end.ensures.kept c.write_column-end.ensures.column c.write_column-end.ensures.from c.write_column-end.ensures.most
-    (omega (arith, c.loop-column.invariant.starts));
+      parts_more (table_of c.args.channel.now) (length c.args.starts.now - 1) c.loop-column.column c.loop-column.end c.write_column-end.result c.loop-column.starts c.loop-column.rows _ c.loop-column.cells _
+      c.loop-column.invariant.parts c.write_column-end.ensures.kept c.write_column-end.ensures.column c.write_column-end.ensures.from c.write_column-end.ensures.most
+      (omega (arith, c.loop-column.invariant.starts));
 }
 
 pub returns-clause-columns : goal.returns-clause-columns

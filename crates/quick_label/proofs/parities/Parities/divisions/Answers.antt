@@ -8,7 +8,7 @@ use Rattle.quick_label.proofs.parities.Parities.divisions.Goals as goal
 pub divisions-requires-clause-closed : goal.divisions-requires-clause-closed
 divisions-requires-clause-closed c row l =
     let long : length c.deref.result.now ≡ 4 ^ c.args.p.qubits =
-      ap length c.deref.ensures.value ∙ c.self.invariant.wholes ∙ ap (λ (w : ParityWords). 4 ^ w.qubits) c.self.view_is ∙ sym (ap (λ q. 4 ^ q) c.requires.same) in
+    ap length c.deref.ensures.value ∙ c.self.invariant.wholes ∙ ap (λ (w : ParityWords). 4 ^ w.qubits) c.self.view_is ∙ sym (ap (λ q. 4 ^ q) c.requires.same) in
     subst (λ z. product_code c.code.result row < z) (sym long) (product_code-lt c.args.p.qubits c.code.result row c.code.ensures.below (subst (λ z. row < z) long l))
 
 pub returns : goal.returns
