@@ -1,5 +1,7 @@
 -- Columns without zeros: a cell more at the end of one, and a column more behind the others.
-use Rattle.std.proofs.Common.{◌≡◌, ℕ, suc, ◌+◌, ◌-◌, ◌*◌, ◌^◌, ◌<◌, ◌≤◌, List, length, take, drop, slice_index, ap, sym, ◌∙◌, subst, inl, inr, absurd, arith}
+use Rattle.std.proofs.Common.{◌≡◌, ◌↔◌, ℕ, ◌+◌, ◌-◌, ◌*◌, ◌^◌, ◌<◌, ◌≤◌, Bool, true, false, IsTrue, List, length, take, drop, slice_index, refl, ap, sym, ◌∙◌, subst, inl, inr, arith}
+use Rattle.std.specs.Prelude.{not}
+use Rattle.std.specs.Int.{from_bool}
 use Rattle.std.proofs.Math.ListN.{set, length-set}
 use Rattle.std.proofs.lemmas.List.{get_or-set_same, get_or-set_other, get_or-take, get_or-drop, length-take-le, length-drop}
 use Rattle.std.proofs.lemmas.Grind.{get_or-set_at}
@@ -10,7 +12,7 @@ use Rattle.tc_ring.specs.declared.root2.Root2.{Root2}
 use Rattle.channel_rep.specs.Tables.{SurdTable}
 use Rattle.channel_rep.specs.Cells.{cell_of, no_cell}
 use Rattle.label_laws.specs.Sparse.{IsSparseColumn}
-use Rattle.quick_label.specs.Columns.{RowsBelow, CellsFit}
+use Rattle.quick_label.specs.Columns.{RowsBelow, CellsFit, HoldsColumns, IsColumnRoom}
 use Rattle.quick_label.specs.ColumnParts.{IsPart, IsKeptTo}
 
 -- what stands before a place stays where something is written there
@@ -87,6 +89,39 @@ part_longer m column row start end rows cells order part at cell = record {
   ];
 }
 
+-- a row more, whose cell is written at the end and stays there where it isn't 0
+part_next : (m : SurdTable) (column row start end : ℕ) (rows : List ℕ) (cells : List Root2) (x : Root2) (nothing : Bool) → IsTrue nothing ↔ (surd_of x ≡ zero_surd)
+    → start ≤ end → end < length rows → end < length cells → surd_of x ≡ m row column → IsPart m column row start end rows cells
+    → IsPart m column (row + 1) start (end + from_bool (not nothing)) (set rows end row) (set cells end x)
+part_next m column row start end rows cells x true test order room long value part =
+    let here : end + 0 ≡ end = omega arith in
+    subst (λ z. IsPart m column (row + 1) start z (set rows end row) (set cells end x)) (sym here)
+    (part_higher m column row start end _ _ (part_kept m column row start end end rows _ cells _ part (kept_by_set end row x rows cells) (omega arith)) (sym value ∙ test.0 refl))
+part_next m column row start end rows cells x false test order room long value part =
+    part_longer m column row start end _ _ order (part_kept m column row start end end rows _ cells _ part (kept_by_set end row x rows cells) (omega arith))
+    (get_or-set_same rows end row 0 room) (ap surd_of (get_or-set_same cells end x no_cell long) ∙ value)
+
+-- the same, where the step is known by an equation
+pub part_stepped : (m : SurdTable) (column row start end step : ℕ) (rows : List ℕ) (cells : List Root2) (x : Root2) (nothing : Bool) → IsTrue nothing ↔ (surd_of x ≡ zero_surd)
+    → step ≡ from_bool (not nothing) → start ≤ end → end < length rows → end < length cells → surd_of x ≡ m row column → IsPart m column row start end rows cells
+    → IsPart m column (row + 1) start (end + step) (set rows end row) (set cells end x)
+part_stepped m column row start end step rows cells x nothing test e order room long value part =
+    subst (λ z. IsPart m column (row + 1) start (end + z) (set rows end row) (set cells end x)) (sym e) (part_next m column row start end rows cells x nothing test order room long value part)
+
+-- a step is at most one
+pub step_most : (nothing : Bool) (step : ℕ) → step ≡ from_bool (not nothing) → step ≤ 1
+step_most true step e = omega arith
+step_most false step e = omega arith
+
+-- no rows
+pub no_part : (m : SurdTable) (column start : ℕ) (rows : List ℕ) (cells : List Root2) → IsPart m column 0 start start rows cells
+no_part m column start rows cells = record {
+  below = λ k s e. absurd (omega arith);
+  rising = λ j k s l e. absurd (omega arith);
+  are = λ k s e. absurd (omega arith);
+  zeros = λ row l none. absurd (omega arith);
+}
+
 -- the columns before a place stand one behind the other, and end at `end`
 pub record AreParts (m : SurdTable) (size column end : ℕ) (starts rows : List ℕ) (cells : List Root2) : Type 0 where
   pub last : slice_index starts column ≡ end
@@ -128,11 +163,11 @@ parts_more m size column end next starts rows more_rows cells more_cells parts k
   ];
   parts = λ c l. elim (cases_eq c column) [
     | inl e ↦
-      subst (λ z. IsPart m z size (slice_index new z) (slice_index new (z + 1)) more_rows more_cells) (sym e)
-      (part_between m column size end next _ _ more_rows more_cells (same column (omega arith) ∙ parts.last) new_last part)
+        subst (λ z. IsPart m z size (slice_index new z) (slice_index new (z + 1)) more_rows more_cells) (sym e)
+        (part_between m column size end next _ _ more_rows more_cells (same column (omega arith) ∙ parts.last) new_last part)
     | inr d ↦
-      part_between m c size (slice_index starts c) (slice_index starts (c + 1)) _ _ more_rows more_cells (same c (omega arith)) (same (c + 1) (omega arith))
-      (part_kept m c size _ _ end rows more_rows cells more_cells (parts.parts c (omega arith)) kept (parts.inside (c + 1) (omega arith)))
+        part_between m c size (slice_index starts c) (slice_index starts (c + 1)) _ _ more_rows more_cells (same c (omega arith)) (same (c + 1) (omega arith))
+        (part_kept m c size _ _ end rows more_rows cells more_cells (parts.parts c (omega arith)) kept (parts.inside (c + 1) (omega arith)))
   ];
 }
   where
@@ -159,8 +194,8 @@ module _ (size start end : ℕ) (rows : List ℕ) (up : start ≤ end) (room : e
   -- are below the size where all are
   pub rows_below_part : RowsBelow size rows → RowsBelow size (take (end - start) (drop start rows))
   rows_below_part h k l =
-    let low : k < end - start = omega (arith, part_length start end up rows room) in
-    omega (arith, row_at k low, h (start + k) (omega arith))
+      let low : k < end - start = omega (arith, part_length start end up rows room) in
+      omega (arith, row_at k low, h (start + k) (omega arith))
 
 -- the cells of a part
 module _ (start end : ℕ) (cells : List Root2) (up : start ≤ end) (room : end ≤ length cells) where
@@ -170,8 +205,8 @@ module _ (start end : ℕ) (cells : List Root2) (up : start ≤ end) (room : end
   -- fit where all do
   pub cells_fit_part : CellsFit cells → CellsFit (take (end - start) (drop start cells))
   cells_fit_part h k l =
-    let low : k < end - start = omega (arith, part_length start end up cells room) in
-    subst (SurdWithin (2 ^ 62)) (sym (cell_at k low)) (h (start + k) (omega arith))
+      let low : k < end - start = omega (arith, part_length start end up cells room) in
+      subst (SurdWithin (2 ^ 62)) (sym (cell_at k low)) (h (start + k) (omega arith))
 
 -- a part as lists of its own
 pub sparse_part : (m : SurdTable) (column size start end : ℕ) (rows : List ℕ) (cells : List Root2) → start ≤ end → end ≤ length rows → end ≤ length cells
@@ -179,12 +214,12 @@ pub sparse_part : (m : SurdTable) (column size start end : ℕ) (rows : List ℕ
 sparse_part m column size start end rows cells up room long part = record {
   below = λ k l. omega (arith, at k (low k l), part.below (start + k) (omega arith) (omega (arith, low k l)));
   rising = λ j k l e.
-    omega (arith, at j (omega (arith, low k e)), at k (low k e), part.rising (start + j) (start + k) (omega arith) (omega arith) (omega (arith, low k e)));
+      omega (arith, at j (omega (arith, low k e)), at k (low k e), part.rising (start + j) (start + k) (omega arith) (omega arith) (omega (arith, low k e)));
   are = λ k l.
-    cell_at start end cells up long k (low k l) ∙ part.are (start + k) (omega arith) (omega (arith, low k l)) ∙ ap (λ r. m r column) (sym (at k (low k l)));
+      cell_at start end cells up long k (low k l) ∙ part.are (start + k) (omega arith) (omega (arith, low k l)) ∙ ap (λ r. m r column) (sym (at k (low k l)));
   zeros = λ row l none. part.zeros row l (λ k s e same.
-    let back : start + (k - start) ≡ k = omega arith in
-    none (k - start) (omega (arith, part_length start end up rows room)) (at (k - start) (omega arith) ∙ ap (slice_index rows) back ∙ same));
+      let back : start + (k - start) ≡ k = omega arith in
+      none (k - start) (omega (arith, part_length start end up rows room)) (at (k - start) (omega arith) ∙ ap (slice_index rows) back ∙ same));
 }
   where
     low : (k : ℕ) → k < length (take (end - start) (drop start rows)) → k < end - start
@@ -192,3 +227,13 @@ sparse_part m column size start end rows cells up room long part = record {
 
     at : (k : ℕ) → k < end - start → slice_index (take (end - start) (drop start rows)) k ≡ slice_index rows (start + k)
     at k l = row_at size start end rows up room k l
+
+-- the columns of a table, all in room for them
+pub columns_held : (m : SurdTable) (size : ℕ) (starts rows : List ℕ) (cells : List Root2) → (room : IsColumnRoom (record { size = size; starts = starts; rows = rows; cells = cells }))
+    → ((c : ℕ) → c < size → IsPart m c size (slice_index starts c) (slice_index starts (c + 1)) rows cells) → HoldsColumns size m (record { size = size; starts = starts; rows = rows; cells = cells })
+columns_held m size starts rows cells room parts = record {
+  as_many = refl;
+  sparse = λ c l.
+      let inside : slice_index starts (c + 1) ≤ size * size = room.inside (c + 1) (omega arith) in
+      sparse_part m c size (slice_index starts c) (slice_index starts (c + 1)) rows cells (room.rising c l) (omega (arith, room.rows)) (omega (arith, room.cells)) (parts c l);
+}

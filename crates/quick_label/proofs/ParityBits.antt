@@ -1,5 +1,5 @@
 -- Words of bits that hold parities: a bit more at the end.
-use Rattle.std.proofs.Common.{◌≡◌, ℕ, ◌+◌, ◌*◌, ◌%◌, ◌^◌, ◌<◌, ◌≤◌, bit_or, w64, ap, sym, ◌∙◌, subst, refl, arith}
+use Rattle.std.proofs.Common.{◌≡◌, ℕ, ◌+◌, ◌*◌, ◌%◌, ◌^◌, ◌<◌, ◌≤◌, bit_or, w64, ap, ◌∙◌, refl, arith}
 use Rattle.std.proofs.Math.Pow.{pow_mono}
 use Rattle.std.proofs.Math.Nat.{mod-eq_of_lt}
 use Rattle.std.specs.Int.{bit_at}
@@ -21,22 +21,20 @@ module _ (word place : ℕ) (inside : place < 64) (low : word < 2 ^ place) where
   top = pow_mono {i = place} {j = 63} (omega arith)
 
   -- which is 0
-  pub zero_more : HasOneMore word place 0 (bit_or word (0 * 2 ^ place % 2 ^ 64))
-  zero_more =
-    let same : bit_or word (0 * 2 ^ place % 2 ^ 64) ≡ word = or_shifted_r 0 place word low in
-    subst (HasOneMore word place 0) (sym same) (record {
-      below = omega (arith, twice);
-      kept = λ k l. refl;
-      last = bit_at_above word place place low (omega arith);
-    })
+  pub zero_more : HasOneMore word place 0 word
+  zero_more = record {
+    below = omega (arith, twice);
+    kept = λ k l. refl;
+    last = bit_at_above word place place low (omega arith);
+  }
 
   -- which is 1
   pub one_more : HasOneMore word place 1 (bit_or word (1 * 2 ^ place % 2 ^ 64))
   one_more =
-    let small : 1 * 2 ^ place % 2 ^ 64 ≡ 1 * 2 ^ place = mod-eq_of_lt {n = 1 * 2 ^ place} {m = 2 ^ 64} (omega (arith, top)) in
-    let sum : bit_or word (1 * 2 ^ place % 2 ^ 64) ≡ 1 * 2 ^ place + word = ap (bit_or word) small ∙ or_shifted_r 1 place word low in
-    record {
-      below = omega (arith, twice, sum);
-      kept = λ k l. bit_at_set_other w64 word place inside k (λ e. omega arith);
-      last = bit_at_set_same w64 word place inside;
-    }
+      let small : 1 * 2 ^ place % 2 ^ 64 ≡ 1 * 2 ^ place = mod-eq_of_lt {n = 1 * 2 ^ place} {m = 2 ^ 64} (omega (arith, top)) in
+      let sum : bit_or word (1 * 2 ^ place % 2 ^ 64) ≡ 1 * 2 ^ place + word = ap (bit_or word) small ∙ or_shifted_r 1 place word low in
+      record {
+        below = omega (arith, twice, sum);
+        kept = λ k l. bit_at_set_other w64 word place inside k (λ e. omega arith);
+        last = bit_at_set_same w64 word place inside;
+      }

@@ -11,8 +11,8 @@ use std::alloc::{AllocError, Global};
 use std::marker::Model;
 use tc_ring::Root2;
 
-/// How many columns the channel of an operator on n qubits has, 4^n.
-fn columns_of(n: u8) -> usize
+/// How many columns the channel of an operator on n qubits has, 4^n, and as many rows.
+pub fn columns_of(n: u8) -> usize
     requires { n ≤ 3 }
     ensures value { result ≡ 4 ^ n }
     ensures few { result ≤ 64 }

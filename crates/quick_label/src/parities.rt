@@ -9,20 +9,12 @@ ghost use Rattle.word_laws.specs.Divisions.{IsDivisionCount};
 ghost use Rattle.word_laws.specs.Parities.{parity};
 ghost use Rattle.quick_label.specs.ParityWords.{HoldsParities};
 
+use crate::columns::columns_of;
 use channel_rep::Channel;
 use pauli_basis::Pauli;
 use std::alloc::{AllocError, Global};
 use std::marker::Model;
 use tc_ring::Root2;
-
-/// How many rows the channel of an operator on n qubits has, 4^n.
-fn rows_of(n: u8) -> usize
-    requires { n ≤ 3 }
-    ensures value { result ≡ 4 ^ n }
-    ensures few { result ≤ 64 }
-{
-    1 << (2 * n)
-}
 
 /// A word with the parity of a number as one more bit, at a place that no bit has reached.
 fn with_parity(word: u64, place: usize, number: i64) -> u64
@@ -32,7 +24,11 @@ fn with_parity(word: u64, place: usize, number: i64) -> u64
     ensures kept { (k : ℕ) → k < place → bit_at result k ≡ bit_at word k }
     ensures last { bit_at result place ≡ parity number }
 {
-    word | u64::from(number % 2 != 0) << place
+    if number % 2 == 0 {
+        word
+    } else {
+        word | 1 << place
+    }
 }
 
 /// The parities of some cells' numbers, a bit a cell: those of the whole parts, and those of the parts of √2.
@@ -61,7 +57,7 @@ fn write_parities(channel: &Channel, wholes: &mut [u64], parts: &mut [u64])
     ensures parities { HoldsParities channel.now.qubits (table_of channel.now)
         (record { qubits = channel.now.qubits; wholes = wholes.new; parts = parts.new }) }
 {
-    for row in 0..rows_of(channel.qubits()) {
+    for row in 0..columns_of(channel.qubits()) {
         let (whole, part) = parities_of(channel.row(row));
         wholes[row] = whole;
         parts[row] = part;
@@ -92,7 +88,7 @@ impl Parities {
         requires { n ≤ 3 }
         ensures { IfOk result (λ parities. parities.qubits ≡ n) }
     {
-        let rows = rows_of(n);
+        let rows = columns_of(n);
         let wholes = vec![in alloc; 0u64; rows]?;
         let parts = vec![in alloc; 0u64; rows]?;
         Ok(Parities { n, wholes, parts })

@@ -13,5 +13,5 @@ invariant-loop-row l = record {
   below : RowsBelow l.size l.rows;
   fit : CellsFit l.cells;
   column : IsPart (table_of l.channel) l.column l.row l.start l.end l.rows l.cells;
-  kept : IsKeptTo l.start l.initial.rows l.rows l.initial.cells l.cells
+  kept : IsKeptTo l.start l.initial.rows l.rows l.initial.cells l.cells;
 }

@@ -11,5 +11,5 @@ invariant-loop-column l = record {
   cells : length l.cells ≡ l.size * l.size;
   below : RowsBelow l.size l.rows;
   fit : CellsFit l.cells;
-  parts : AreParts (table_of l.channel) l.size l.column l.end l.starts l.rows l.cells
+  parts : AreParts (table_of l.channel) l.size l.column l.end l.starts l.rows l.cells;
 }

@@ -9,5 +9,5 @@ invariant-loop-place l = record {
   whole_below : l.whole < 2 ^ l.place;
   part_below : l.part < 2 ^ l.place;
   wholes : (k : ℕ) → k < l.place → bit_at l.whole k ≡ parity (cell_of l.cells k).a;
-  parts : (k : ℕ) → k < l.place → bit_at l.part k ≡ parity (cell_of l.cells k).b
+  parts : (k : ℕ) → k < l.place → bit_at l.part k ≡ parity (cell_of l.cells k).b;
 }

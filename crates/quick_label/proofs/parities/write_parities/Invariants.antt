@@ -11,5 +11,5 @@ invariant-loop-row l = record {
   wholes_below : (row : ℕ) → row < l.row → slice_index l.wholes row < 2 ^ 4 ^ l.channel.qubits;
   parts_below : (row : ℕ) → row < l.row → slice_index l.parts row < 2 ^ 4 ^ l.channel.qubits;
   whole_bits : (row column : ℕ) → row < l.row → column < 4 ^ l.channel.qubits → bit_at (slice_index l.wholes row) column ≡ parity (table_of l.channel row column).a;
-  part_bits : (row column : ℕ) → row < l.row → column < 4 ^ l.channel.qubits → bit_at (slice_index l.parts row) column ≡ parity (table_of l.channel row column).b
+  part_bits : (row column : ℕ) → row < l.row → column < 4 ^ l.channel.qubits → bit_at (slice_index l.parts row) column ≡ parity (table_of l.channel row column).b;
 }
