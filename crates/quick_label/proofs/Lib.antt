@@ -1,0 +1,4 @@
+pub mod Letters
+pub mod SmallNumbers
+pub mod Graded
+pub mod Halves
