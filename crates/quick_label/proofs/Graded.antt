@@ -98,10 +98,10 @@ module _ (n : ℕ) (span : List Bool) (most_a most_b : ℕ) (m : SurdTable) (pac
   -- rows of one block have the same block
   pub same_block : (x y r : ℕ) → x < 4 ^ n → y < 4 ^ n → r < 4 ^ n → in_block span x y ≡ true → in_block span x r ≡ in_block span y r
   same_block x y r lx ly lr e = elim (cases_Bool (in_block span x r)) [
-    | inl yes ↦ yes ∙ sym (packable.closed y x r ly lx lr (in_block_swap span y x ∙ e) yes)
-    | inr no ↦ elim (cases_Bool (in_block span y r)) [
-      | inl yes ↦ absurd (let other = packable.closed x y r lx ly lr e yes in cc)
-      | inr other ↦ no ∙ sym other
+    | inl within ↦ within ∙ sym (packable.closed y x r ly lx lr (in_block_swap span y x ∙ e) within)
+    | inr outside ↦ elim (cases_Bool (in_block span y r)) [
+      | inl within ↦ absurd (let other = packable.closed x y r lx ly lr e within in cc)
+      | inr other ↦ outside ∙ sym other
     ]
   ]
 
@@ -129,15 +129,15 @@ module _ (n : ℕ) (span : List Bool) (most_a most_b : ℕ) (m : SurdTable) (pac
       row_share : (row count : ℕ) → row + suc count ≡ 4 ^ n → (surd_times (w 0 row) (cell row)).b +ℤ graded power (digits (row + 1) count) ≡ graded power (digits row (suc count))
       unfolding surd_integer
       row_share row count e = elim (cases_Bool (in_block span column row)) [
-        | inl yes ↦
+        | inl within ↦
             ap (λ x. x +ℤ graded power (digits (row + 1) count))
-            (ap (λ x. (surd_times x (cell row)).b) (by_behind row) ∙ share (power (rows_behind (4 ^ n) span row)) (cell row) ∙ ap (λ k. digit (cell row) *ℤ pos (power k)) (behind_is row count e yes))
-            ∙ sym (ap (graded power) (digits_yes (in_block span column) cell row count yes))
-        | inr no ↦
+            (ap (λ x. (surd_times x (cell row)).b) (by_behind row) ∙ share (power (rows_behind (4 ^ n) span row)) (cell row) ∙ ap (λ k. digit (cell row) *ℤ pos (power k)) (behind_is row count e within))
+            ∙ sym (ap (graded power) (digits_yes (in_block span column) cell row count within))
+        | inr outside ↦
             ap (λ (x : Surd). x.b +ℤ graded power (digits (row + 1) count))
-            (ap (surd_times (w 0 row)) (packable.sparse row column (omega arith) lc no) ∙ mul-zero surds_laws (w 0 row))
+            (ap (surd_times (w 0 row)) (packable.sparse row column (omega arith) lc outside) ∙ mul-zero surds_laws (w 0 row))
             ∙ none_before (graded power (digits (row + 1) count))
-            ∙ sym (ap (graded power) (digits_no (in_block span column) cell row count no))
+            ∙ sym (ap (graded power) (digits_no (in_block span column) cell row count outside))
       ]
 
       -- the sum from a row on

@@ -45,21 +45,21 @@ low_weight_is size span row = by (nat_lt (rows_behind size span row) 8) (256 ^ r
 -- a digit's power is that in the high half and that in the low one
 power_split : (k : ℕ) → 256 ^ k ≡ high_power k * 2 ^ 64 + low_power k
 power_split k = elim (cases_Bool (nat_lt k 8)) [
-  | inl yes ↦
-      (let high : high_power k ≡ 0 = cond-true (nat_lt k 8) 0 (256 ^ (k - 8)) yes in
-      let low : low_power k ≡ 256 ^ k = cond-true (nat_lt k 8) (256 ^ k) 0 yes in
+  | inl few ↦
+      (let high : high_power k ≡ 0 = cond-true (nat_lt k 8) 0 (256 ^ (k - 8)) few in
+      let low : low_power k ≡ 256 ^ k = cond-true (nat_lt k 8) (256 ^ k) 0 few in
       omega arith)
-  | inr no ↦
-      (let high : high_power k ≡ 256 ^ (k - 8) = cond-false (nat_lt k 8) 0 (256 ^ (k - 8)) no in
-      let low : low_power k ≡ 0 = cond-false (nat_lt k 8) (256 ^ k) 0 no in
-      let up : k ≡ k - 8 + 8 = at_least k no in
+  | inr many ↦
+      (let high : high_power k ≡ 256 ^ (k - 8) = cond-false (nat_lt k 8) 0 (256 ^ (k - 8)) many in
+      let low : low_power k ≡ 0 = cond-false (nat_lt k 8) (256 ^ k) 0 many in
+      let up : k ≡ k - 8 + 8 = at_least k many in
       let product : 256 ^ k ≡ 256 ^ (k - 8) * 256 ^ 8 = ap (λ j. 256 ^ j) up ∙ pow-add 256 (k - 8) 8 in
       omega arith)
 ]
   where
     at_least : (k : ℕ) → nat_lt k 8 ≡ false → k ≡ k - 8 + 8
-    at_least k no = elim (cases_lt k 8) [
-      | inl l ↦ absurd (let yes = lt-ltb k 8 l in cc)
+    at_least k many = elim (cases_lt k 8) [
+      | inl l ↦ absurd (let few = lt-ltb k 8 l in cc)
       | inr l ↦ omega arith
     ]
 

@@ -1,4 +1,4 @@
-use Rattle.std.proofs.Common.{arith}
+use Rattle.std.proofs.Common.{◌^◌, arith}
 use Rattle.quick_label.proofs.Halves.{number_is_sums, halves_below}
 use Rattle.quick_label.proofs.laws.numbers_are_sums.Goals as goal
 
