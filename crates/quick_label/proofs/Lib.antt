@@ -4,3 +4,4 @@ pub mod Graded
 pub mod Halves
 pub mod DigitOrder
 pub mod Leads
+pub mod WholeNumbers
