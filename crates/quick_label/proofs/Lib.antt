@@ -5,3 +5,10 @@ pub mod ColumnSums
 pub mod HeldParities
 pub mod ParityBits
 pub mod SetOne
+pub mod Letters
+pub mod SmallNumbers
+pub mod Graded
+pub mod Halves
+pub mod DigitOrder
+pub mod Leads
+pub mod WholeNumbers
