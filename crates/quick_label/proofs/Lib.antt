@@ -12,3 +12,4 @@ pub mod Halves
 pub mod DigitOrder
 pub mod Leads
 pub mod WholeNumbers
+pub mod LetterRows

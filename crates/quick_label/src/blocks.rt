@@ -4,6 +4,7 @@ ghost use Rattle.pauli_basis.specs.Products.{product_code};
 ghost use Rattle.quick_label.specs.Blocks.{in_block, block_rows, rows_behind};
 ghost use Rattle.quick_label.specs.Rooms.{HeldBlocks, IsBlockRoom, MarksSubspace, AreBlocks, HasSmallBlocks, AreHomes, ArePlaced};
 
+use crate::spans::codes;
 use std::alloc::{AllocError, Global};
 use std::marker::Model;
 
@@ -97,7 +98,7 @@ impl Blocks {
         requires { n ≤ 3 }
         ensures { IfOk result (λ blocks. blocks.size ≡ 4 ^ n) }
     {
-        let size = 1usize << (2 * n);
+        let size = codes(n);
         let homes = vec![in alloc; 0u8; size]?;
         let rows = vec![in alloc; 0u8; size * size]?;
         let counts = vec![in alloc; 0u8; size]?;

@@ -1,7 +1,17 @@
 // Spans of letters, letter by letter.
-ghost use Rattle.std.specs.Prelude.{◌≡◌, ℕ, ◌^◌, ◌<◌, List, [], ◌∷◌, length};
+ghost use Rattle.std.specs.Prelude.{◌≡◌, ℕ, ◌^◌, ◌<◌, ◌≤◌, List, [], ◌∷◌, length};
 ghost use Rattle.pauli_basis.specs.Products.{product_code};
 ghost use Rattle.quick_label.specs.Spans.{AreSpan};
+
+/// How many codes there are on n qubits, 4^n.
+pub fn codes(n: u8) -> usize
+    requires { n ≤ 3 }
+    ensures value { result ≡ 4 ^ n }
+    ensures some { 0 < result }
+    ensures few { result ≤ 64 }
+{
+    1 << (2 * n)
+}
 
 /// Makes the span that of no letters, which holds the identity alone.
 pub fn empty_span(span: &mut [bool])

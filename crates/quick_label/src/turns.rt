@@ -3,6 +3,7 @@ ghost use Rattle.std.specs.Prelude.{◌≡◌, ℕ, ◌*◌, ◌^◌, ◌<◌, �
 ghost use Rattle.pauli_basis.specs.Products.{commute, anti_sign};
 ghost use Rattle.quick_label.specs.Letters.{HeldTurns, IsTurnRoom};
 
+use crate::spans::codes;
 use pauli_basis::Pauli;
 use std::alloc::{AllocError, Global};
 use std::marker::Model;
@@ -46,7 +47,7 @@ impl Turns {
         requires few { n ≤ 3 }
         ensures { IfOk result (λ turns. turns.qubits ≡ n) }
     {
-        let size = 1usize << (2 * n);
+        let size = codes(n);
         let mut commuting = Vec::with_capacity(alloc, size * size)?;
         let mut negative = Vec::with_capacity(alloc, size * size)?;
         for place in 0..size * size {
@@ -68,7 +69,7 @@ impl Turns {
         ensures value { (row : ℕ) → row < 4 ^ self.now.qubits
             → slice_index_or result.now row false ≡ commute self.now.qubits letter row }
     {
-        let size = 1usize << (2 * self.n);
+        let size = codes(self.n);
         &self.commuting[letter * size..(letter + 1) * size]
     }
 
@@ -79,7 +80,7 @@ impl Turns {
         ensures value { (row : ℕ) → row < 4 ^ self.now.qubits
             → slice_index_or result.now row false ≡ anti_sign self.now.qubits letter row }
     {
-        let size = 1usize << (2 * self.n);
+        let size = codes(self.n);
         &self.negative[letter * size..(letter + 1) * size]
     }
 }

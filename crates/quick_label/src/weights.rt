@@ -11,6 +11,7 @@ ghost use Rattle.quick_label.specs.Rooms.{AreBlocks};
 ghost use Rattle.quick_label.specs.Weights.{before_letter};
 
 use crate::Blocks;
+use crate::spans::codes;
 use std::alloc::{AllocError, Global};
 use std::marker::Model;
 
@@ -106,7 +107,7 @@ impl Weights {
         requires { n ≤ 3 }
         ensures { IfOk result (λ weights. length weights.wholes ≡ 4 ^ n) }
     {
-        let size = 1usize << (2 * n);
+        let size = codes(n);
         let wholes = vec![in alloc; 0u64; size]?;
         let parts = vec![in alloc; 0u64; size]?;
         Ok(Weights { wholes, parts })
