@@ -1,6 +1,6 @@
 -- A column's sum by weights that depend on how many rows of its block stand behind is a sum over the digits of its number.
-use Rattle.std.proofs.Common.{◌≡◌, ℕ, zero, suc, ◌+◌, ◌-◌, ◌*◌, ◌^◌, ◌<◌, ◌≤◌, Bool, true, false, List, [], ◌∷◌, length, refl, ap, sym, ◌∙◌, subst, arith, inl, inr}
-use Rattle.std.specs.Prelude.{ℤ, pos, negsuc, neg_ℤ, ◌+ℤ◌, ◌*ℤ◌, nat_abs, cond, if◌then◌else◌, filter, slice_index_or}
+use Rattle.std.proofs.Common.{◌≡◌, ℕ, zero, suc, ◌+◌, ◌-◌, ◌^◌, ◌<◌, ◌≤◌, Bool, true, false, List, [], ◌∷◌, length, refl, ap, sym, ◌∙◌, subst, arith, inl, inr}
+use Rattle.std.specs.Prelude.{ℤ, pos, ◌+ℤ◌, ◌*ℤ◌, cond, filter, slice_index_or}
 use Rattle.std.specs.List.{range_with_len, AllByRecursion}
 use Rattle.std.proofs.lemmas.Bool.{cases_Bool, cond-true, cond-false}
 use Rattle.std.proofs.lemmas.List.Sums.{length-filter}
@@ -9,7 +9,7 @@ use Rattle.ring_laws.specs.Matrix.{sum}
 use Rattle.ring_laws.proofs.Ring.{mul-zero}
 use Rattle.ring_laws.proofs.Integers.{integers_laws}
 use Rattle.ring_laws.proofs.Reader.{ring, reads}
-use Rattle.tc_ring.specs.Surds.{Surd, surds, surd_integer, surd_plus, surd_times, zero_surd}
+use Rattle.tc_ring.specs.Surds.{Surd, surd_integer, surd_plus, surd_times}
 use Rattle.tc_ring.proofs.Surds.{surds_laws}
 use Rattle.channel_rep.specs.Tables.{SurdTable}
 use Rattle.label_laws.specs.Digits.{kept_digits, signed_number}

@@ -11,7 +11,6 @@ use Rattle.ring_laws.proofs.Integers.{integers_laws}
 use Rattle.ring_laws.proofs.Reader.{ring, reads}
 use Rattle.tc_ring.specs.Surds.{Surd, surd_integer, zero_surd}
 use Rattle.channel_rep.specs.Tables.{SurdTable}
-use Rattle.label_laws.specs.Digits.{signed_number}
 use Rattle.label_laws.specs.Folds.{weighed}
 use Rattle.quick_label.specs.Blocks.{in_block, block_rows, rows_behind}
 use Rattle.quick_label.specs.Numbers.{digit, column_number, digit_weight, high_weights, low_weights}

@@ -1,24 +1,23 @@
 -- The size of a column's number tells how many rows of its block stand behind its lead row.
-use Rattle.std.proofs.Common.{◌≡◌, ◌≢◌, ℕ, zero, suc, ◌+◌, ◌-◌, ◌*◌, ◌^◌, ◌<◌, ◌≤◌, Bool, true, false, List, [], ◌∷◌, ◌++◌, length, refl, ap, sym, ◌∙◌, subst, arith, inl, inr, ◌⊎◌, lit<}
-use Rattle.std.specs.Prelude.{ℤ, pos, negsuc, neg_ℤ, ◌+ℤ◌, ◌*ℤ◌, ◌<ℤ◌, nat_abs, reverse, slice_index, slice_index_or}
-use Rattle.std.specs.List.{AllByRecursion}
+use Rattle.std.proofs.Common.{◌≡◌, ◌≢◌, ℕ, zero, suc, ◌+◌, ◌*◌, ◌^◌, ◌<◌, ◌≤◌, Bool, List, [], ◌∷◌, ◌++◌, length, refl, ap, sym, ◌∙◌, subst, arith, inl, inr, ◌⊎◌, lit<}
+use Rattle.std.specs.Prelude.{ℤ, pos, negsuc, neg_ℤ, ◌+ℤ◌, ◌*ℤ◌, ◌<ℤ◌, nat_abs, reverse, slice_index}
 use Rattle.std.proofs.lemmas.Bool.{cases_Bool, cases_eq, cases_lt}
 use Rattle.std.proofs.lemmas.Int.{ints}
 use Rattle.std.proofs.lemmas.Grind.{reverse_onto}
 use Rattle.std.proofs.lemmas.List.{length-reverse, length-append}
 use Rattle.std.proofs.Math.ListN.{get_or-append}
 use Rattle.std.proofs.Math.Seq.{get_or-append_seam}
-use Rattle.std.proofs.Math.Nat.{mul-le-mul_right, pow-le-pow_right, one-le-pow, pow-succ'}
+use Rattle.std.proofs.Math.Nat.{mul-le-mul_right, pow-le-pow_right, one-le-pow}
 use Rattle.ring_laws.proofs.Integers.{integers_laws}
 use Rattle.ring_laws.proofs.Reader.{ring, reads}
 use Rattle.tc_ring.specs.Surds.{Surd, surd_integer, zero_surd}
 use Rattle.tc_ring.proofs.Surds.{same_surd}
 use Rattle.channel_rep.specs.Tables.{SurdTable}
-use Rattle.label_laws.specs.Digits.{signed_number, AreSignedDigits, IsRanking}
+use Rattle.label_laws.specs.Digits.{signed_number, AreSignedDigits}
 use Rattle.label_laws.proofs.Digits.{signed_between}
 use Rattle.quick_label.specs.Blocks.{in_block, block_rows}
 use Rattle.quick_label.specs.Numbers.{digit, column_number}
-use Rattle.quick_label.specs.Tables.{SurdUpTo, IsPackable, IsLeadRow}
+use Rattle.quick_label.specs.Tables.{IsPackable, IsLeadRow}
 use Rattle.quick_label.proofs.DigitOrder.{digits_rank, digit-zero}
 use Rattle.quick_label.proofs.Graded.{digits_of, rows_of, digits_yes, digits_no, rows_yes, rows_no, digits-length, digits_all}
 
@@ -108,9 +107,10 @@ module _ (n : ℕ) (span : List Bool) (m : SurdTable) (packable : IsPackable n s
   leads_here : (row : ℕ) (rows : List ℕ) (ds : List ℤ) → length ds ≡ length rows → row < 4 ^ n → ((r : ℕ) → r < row → cell r ≡ zero_surd) → digit (cell row) ≢ pos 0 → Leads (length ds) (reverse (row ∷ rows))
   unfolding surd_integer
   leads_here row rows ds same below zeros other =
-      subst (Leads (length ds)) (sym (reverse_is row rows))
-      ((let long = length-append (reverse rows) (row ∷ []) in let turned = length-reverse rows in omega arith),
-      subst (IsLeadRow (4 ^ n) m column) (sym at) (record { low = below; zeros = zeros; other = λ e. other (ap digit e) }))
+      subst (Leads (length ds)) (sym (reverse_is row rows)) (
+        (let long = length-append (reverse rows) (row ∷ []) in let turned = length-reverse rows in omega arith),
+        subst (IsLeadRow (4 ^ n) m column) (sym at) (record { low = below; zeros = zeros; other = λ e. other (ap digit e) }),
+      )
     where
       at : slice_index (reverse rows ++ row ∷ []) (length ds) ≡ row
       at = ap (λ k. slice_index (reverse rows ++ row ∷ []) k) (same ∙ sym (length-reverse rows)) ∙ get_or-append_seam (reverse rows) row [] 0

@@ -1,6 +1,6 @@
 -- The sums of a table's columns behind a letter, from the cells before it.
 use Rattle.std.proofs.Common.{◌≡◌, ℕ, zero, suc, ◌+◌, ◌^◌, ◌<◌, ◌≤◌, false, ap, sym, ◌∙◌, arith}
-use Rattle.ring_laws.specs.Matrix.{sum, product}
+use Rattle.ring_laws.specs.Matrix.{product}
 use Rattle.ring_laws.proofs.Sums.{sum_cong}
 use Rattle.tc_ring.specs.Surds.{Surd, surds, surd_times, root2_surd}
 use Rattle.tc_ring.proofs.Surds.{surds_laws, cancel_root2_power}

@@ -1,6 +1,6 @@
 -- The norm of a circuit's channel bounds its numbers.
-use Rattle.std.proofs.Common.{◌≡◌, ℕ, zero, suc, ◌+◌, ◌*◌, ◌^◌, ◌<◌, ◌≤◌, arith, ap, inl, inr, lit<}
-use Rattle.std.specs.Prelude.{ℤ, pos, ◌+ℤ◌, ◌*ℤ◌, ◌≤ℤ◌, nat_abs}
+use Rattle.std.proofs.Common.{◌≡◌, ℕ, zero, suc, ◌*◌, ◌^◌, ◌<◌, ◌≤◌, arith, ap, inl, inr, lit<}
+use Rattle.std.specs.Prelude.{ℤ, pos, ◌≤ℤ◌, nat_abs}
 use Rattle.std.proofs.lemmas.Bool.{cases_eq, cases_lt}
 use Rattle.std.proofs.lemmas.Int.{ints}
 use Rattle.std.proofs.Math.Nat.{mul-le-mul_right, mul_comm, pow-le-pow_right}
@@ -62,5 +62,6 @@ module _ (n : ℕ) (some : 0 < n) (few : n ≤ 3) (m : ScaledTable) (circuit : I
 
   pub small_numbers : (m.exponent ≤ 6 → SurdUpTo 8 5 (m.table row column)) × (m.exponent ≤ 5 → SurdUpTo 5 4 (m.table row column))
   small_numbers = (
-      λ h. small_by 8 5 64 (m.table row column) (cell_norm 6 h) (omega arith) (omega arith),
-      λ h. small_by 5 4 32 (m.table row column) (cell_norm 5 h) (omega arith) (omega arith))
+    λ h. small_by 8 5 64 (m.table row column) (cell_norm 6 h) (omega arith) (omega arith),
+    λ h. small_by 5 4 32 (m.table row column) (cell_norm 5 h) (omega arith) (omega arith),
+  )

@@ -1,4 +1,4 @@
-use Rattle.std.proofs.Common.{◌∙◌, sym, ap}
+use Rattle.std.proofs.Common.{◌∙◌, ap}
 use Rattle.std.specs.Prelude.{pos, ◌*ℤ◌, if◌then◌else◌}
 use Rattle.quick_label.proofs.WholeNumbers.{number_of_halves, halved_number}
 use Rattle.quick_label.proofs.numbers.number_of.Goals as goal
