@@ -13,3 +13,4 @@ pub mod DigitOrder
 pub mod Leads
 pub mod WholeNumbers
 pub mod LetterRows
+pub mod QuickMarks

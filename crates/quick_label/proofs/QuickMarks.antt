@@ -1,0 +1,106 @@
+-- From the sums of a word's columns to the mark of a letter before it.
+use Rattle.std.proofs.Common.{◌≡◌, ◌≢◌, ℕ, zero, suc, ◌+◌, ◌-◌, ◌*◌, ◌%◌, ◌^◌, ◌<◌, ◌≤◌, Bool, true, false, true≢false, List, [], ◌∷◌, length, slice_index, slice_index_or, refl, ap, sym, ◌∙◌, subst, inl, inr, arith}
+use Rattle.std.specs.Prelude.{ℤ, pos, ◌+ℤ◌, ◌*ℤ◌, nat_abs, int_lt, nat_lt, if◌then◌else◌}
+use Rattle.std.proofs.Math.Nat.{pow-zero, pow-succ'}
+use Rattle.std.proofs.lemmas.Bool.{cases_lt}
+use Rattle.std.proofs.lemmas.Int.{ints}
+use Rattle.ring_laws.proofs.Integers.{integers_laws}
+use Rattle.ring_laws.proofs.Reader.{ring, reads}
+use Rattle.channel_rep.specs.Tables.{SurdTable, ScaledTable}
+use Rattle.label_laws.specs.Congruence.{IsCongruent}
+use Rattle.label_laws.specs.Folds.{weighed}
+use Rattle.quick_label.specs.Blocks.{block_rows}
+use Rattle.quick_label.specs.FrontRooms.{AreFrontSums, AreHalves, AreLedBy}
+use Rattle.quick_label.specs.Fronts.{IsFront}
+use Rattle.quick_label.specs.Numbers.{column_number, high_weights, low_weights}
+use Rattle.quick_label.specs.Places.{AreColumnNumbers, AreLeadRows, TellSigns}
+use Rattle.quick_label.specs.Rooms.{HasSmallBlocks}
+use Rattle.quick_label.specs.Tables.{IsPackable, IsLeadRow}
+use Rattle.quick_label.specs.Weights.{before_letter, doubled}
+use Rattle.quick_label.proofs.DigitOrder.{number_sign}
+use Rattle.quick_label.proofs.Halves.{number_is_sums, halves_below}
+use Rattle.quick_label.proofs.Leads.{number_lead}
+use Rattle.quick_label.proofs.Letters.{sums_before}
+
+-- ---- halves
+-- doubled halves fit where the halves are small enough
+doubled_fits : (d : ℕ) (z : ℤ) → (nat_lt 0 d ≡ true → nat_abs z < 2 ^ 62) → nat_abs z < 2 ^ 63 → nat_abs (doubled d z) < 2 ^ 63
+doubled_fits zero z half whole = whole
+doubled_fits (suc d) z half whole = let small = half refl in omega (arith, ints)
+
+twice_sum : (h l p : ℤ) → (pos 2 *ℤ h) *ℤ p +ℤ pos 2 *ℤ l ≡ pos 2 *ℤ (h *ℤ p +ℤ l)
+twice_sum h l p = ring integers_laws (h ∷ l ∷ p ∷ []) (search reads depth 30 parts 0 fits 10000) tt
+
+-- and make the number, or twice the number
+doubled_sum : (d : ℕ) (h l p z : ℤ) → z ≡ h *ℤ p +ℤ l → doubled d h *ℤ p +ℤ doubled d l ≡ (if nat_lt 0 d then pos 2 *ℤ z else z)
+doubled_sum zero h l p z e = sym e
+doubled_sum (suc d) h l p z e = twice_sum h l p ∙ ap (λ x. pos 2 *ℤ x) (sym e)
+
+module _ (n p divisions : ℕ) (a b : ScaledTable) (front : IsFront n p divisions a b) (span : List Bool) (packable : IsPackable n span 8 5 b.table)
+    (small : nat_lt 0 divisions ≡ true → IsPackable n span 5 4 b.table) (blocks : HasSmallBlocks (4 ^ n) span) where
+  high_before : ℕ → ℤ
+  high_before column = weighed (4 ^ n) (before_letter n p divisions (high_weights (4 ^ n) span)) a.table column
+
+  low_before : ℕ → ℤ
+  low_before column = weighed (4 ^ n) (before_letter n p divisions (low_weights (4 ^ n) span)) a.table column
+
+  -- sums before the letter are those behind it, doubled where it is divided
+  behind : (w : SurdTable) (column : ℕ) → column < 4 ^ n → weighed (4 ^ n) (before_letter n p divisions w) a.table column ≡ doubled divisions (weighed (4 ^ n) w b.table column)
+  behind = sums_before n p front.letter a b front.same divisions front.few front.exponent
+
+  -- so they make the numbers
+  pub halves_of_front : (folds highs lows : List ℕ) → AreFrontSums n p divisions span a.table folds highs lows
+      → AreHalves (4 ^ n) highs lows (nat_lt 0 divisions) high_before low_before (column_number (4 ^ n) span b.table)
+  unfolding high_before low_before
+  halves_of_front folds highs lows sums column l =
+      let high = weighed (4 ^ n) (high_weights (4 ^ n) span) b.table column in
+      let low = weighed (4 ^ n) (low_weights (4 ^ n) span) b.table column in
+      let high_is = behind (high_weights (4 ^ n) span) column l in
+      let low_is = behind (low_weights (4 ^ n) span) column l in
+      let rows = blocks.rows column l in
+      let below = halves_below n span 8 5 b.table packable column l (2 ^ 63) (omega arith) rows in
+      let half = λ (e : nat_lt 0 divisions ≡ true). halves_below n span 5 4 b.table (small e) column l (2 ^ 62) (omega arith) rows in
+      record {
+        is_high = sums.high_sums column l;
+        is_low = sums.low_sums column l;
+        high_fits = subst (λ z. nat_abs z < 2 ^ 63) (sym high_is) (doubled_fits divisions high (λ e. (half e).0) below.0);
+        low_fits = subst (λ z. nat_abs z < 2 ^ 63) (sym low_is) (doubled_fits divisions low (λ e. (half e).1) below.1);
+        sum = (λ i. high_is i *ℤ pos (2 ^ 64) +ℤ low_is i) ∙ doubled_sum divisions high low (pos (2 ^ 64)) _ (number_is_sums n span 8 5 b.table packable column l);
+      }
+
+-- ---- leads
+-- each number is below some power of 256
+below_power : (m : ℕ) → m < 256 ^ m
+below_power zero = let e = pow-zero 256 in omega arith
+below_power (suc m) = let e = pow-succ' 256 m in let l = below_power m in omega arith
+
+-- so one other than 0 has a highest digit
+module _ (m : ℕ) (some : 0 < m) where
+  top_below : (k : ℕ) → m < 256 ^ k → (behind : ℕ) × (256 ^ behind ≤ m) × (m < 256 ^ (behind + 1))
+  top_below zero l = let e = pow-zero 256 in absurd (omega arith)
+  top_below (suc k) l = elim (cases_lt m (256 ^ k)) [
+    | inl less ↦ top_below k less
+    | inr more ↦ let next : suc k ≡ k + 1 = omega arith in (k, more, subst (λ j. m < 256 ^ j) next l)
+  ]
+
+  top_digit : (behind : ℕ) × (256 ^ behind ≤ m) × (m < 256 ^ (behind + 1))
+  top_digit = top_below m (below_power m)
+
+some_size : (z : ℤ) → z ≢ pos 0 → 0 < 2 * nat_abs z
+some_size (pos zero) d = absurd (d refl)
+some_size z d = omega (arith, ints)
+
+module _ (n : ℕ) (span : List Bool) (m : SurdTable) (packable : IsPackable n span 8 5 m) (numbers : List ℤ) (are : AreColumnNumbers n span m numbers) where
+  -- the rows that the numbers tell are the columns' lead rows
+  pub leads_of_numbers : (leads : List ℕ) → AreLedBy (4 ^ n) span numbers leads → AreLeadRows n m leads
+  leads_of_numbers leads led column l =
+      let number = slice_index_or numbers column (pos 0) in
+      let here = led column l in
+      let top = top_digit (2 * nat_abs number) (some_size number here.0) in
+      let e = are column l in
+      let lead = number_lead n span m packable column l top.0 (subst (λ z. 256 ^ top.0 ≤ 2 * nat_abs z) e top.1.0) (subst (λ z. 2 * nat_abs z < 256 ^ (top.0 + 1)) e top.1.1) in
+      subst (IsLeadRow (4 ^ n) m column) (sym (here.1 top.0 top.1.0 top.1.1 lead.0)) lead.1
+
+  -- and the numbers' signs those of the columns
+  pub signs_of_numbers : TellSigns n m numbers
+  signs_of_numbers column l = ap (λ z. int_lt z (pos 0)) (are column l) ∙ sym (number_sign n span m packable column l)
