@@ -8,3 +8,6 @@ mod sums;
 pub use columns::Columns;
 pub use parities::Parities;
 pub use sums::weigh_columns;
+
+#[cfg(test)]
+mod tests;
