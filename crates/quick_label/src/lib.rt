@@ -24,3 +24,6 @@ pub use suffix::Suffix;
 pub use sums::weigh_columns;
 pub use turns::Turns;
 pub use weights::Weights;
+
+#[cfg(test)]
+mod tests;

@@ -1,0 +1,4 @@
+mod channels;
+mod columns;
+mod parities;
+mod sums;
