@@ -1,1 +1,2 @@
 pub mod LetterRows
+pub mod WeightRows
