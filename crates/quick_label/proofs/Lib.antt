@@ -14,3 +14,4 @@ pub mod Leads
 pub mod WholeNumbers
 pub mod LetterRows
 pub mod QuickMarks
+pub mod WeightRows
