@@ -23,3 +23,6 @@ pub fn lead_of(rows: &[u8], number: i128) -> u8
     let behind = (bits / 8) as usize;
     if behind < rows.len() { rows[behind] } else { 0 }
 }
+
+#[cfg(test)]
+mod tests;
