@@ -1,0 +1,2 @@
+pub mod PlacedSums
+pub mod Counts
