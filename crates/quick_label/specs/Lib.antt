@@ -4,3 +4,4 @@ pub mod Numbers
 pub mod Weights
 pub mod Tables
 pub mod Places
+pub mod Laws
