@@ -1,7 +1,9 @@
 pub mod Spans
 pub mod Blocks
+pub mod Rooms
 pub mod Numbers
 pub mod Weights
 pub mod Tables
 pub mod Places
 pub mod Laws
+pub mod Letters
