@@ -5,6 +5,8 @@ pub mod ColumnSums
 pub mod HeldParities
 pub mod ParityBits
 pub mod SetOne
+pub mod PlacedSums
+pub mod Counts
 pub mod Letters
 pub mod SmallNumbers
 pub mod Graded
@@ -15,3 +17,4 @@ pub mod WholeNumbers
 pub mod LetterRows
 pub mod QuickMarks
 pub mod WeightRows
+pub mod CountedPlaces

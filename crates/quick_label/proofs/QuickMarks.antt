@@ -2,7 +2,7 @@
 use Rattle.std.proofs.Common.{◌≡◌, ◌≢◌, ℕ, zero, suc, ◌+◌, ◌-◌, ◌*◌, ◌%◌, ◌^◌, ◌<◌, ◌≤◌, Bool, true, false, true≢false, List, [], ◌∷◌, length, slice_index, slice_index_or, refl, ap, sym, ◌∙◌, subst, inl, inr, arith}
 use Rattle.std.specs.Prelude.{ℤ, pos, ◌+ℤ◌, ◌*ℤ◌, nat_abs, int_lt, nat_lt, if◌then◌else◌}
 use Rattle.std.proofs.Math.Nat.{pow-zero, pow-succ'}
-use Rattle.std.proofs.lemmas.Bool.{cases_lt}
+use Rattle.std.proofs.lemmas.Bool.{cases_lt, cond-true, lt-ltb}
 use Rattle.std.proofs.lemmas.Int.{ints}
 use Rattle.ring_laws.proofs.Integers.{integers_laws}
 use Rattle.ring_laws.proofs.Reader.{ring, reads}
@@ -23,10 +23,13 @@ use Rattle.quick_label.proofs.Leads.{number_lead}
 use Rattle.quick_label.proofs.Letters.{sums_before}
 
 -- ---- halves
+divided : (d : ℕ) → nat_lt 0 (suc d) ≡ true
+divided d = lt-ltb 0 (suc d) (omega arith)
+
 -- doubled halves fit where the halves are small enough
 doubled_fits : (d : ℕ) (z : ℤ) → (nat_lt 0 d ≡ true → nat_abs z < 2 ^ 62) → nat_abs z < 2 ^ 63 → nat_abs (doubled d z) < 2 ^ 63
 doubled_fits zero z half whole = whole
-doubled_fits (suc d) z half whole = let small = half refl in omega (arith, ints)
+doubled_fits (suc d) z half whole = let small = half (divided d) in omega (arith, ints)
 
 twice_sum : (h l p : ℤ) → (pos 2 *ℤ h) *ℤ p +ℤ pos 2 *ℤ l ≡ pos 2 *ℤ (h *ℤ p +ℤ l)
 twice_sum h l p = ring integers_laws (h ∷ l ∷ p ∷ []) (search reads depth 30 parts 0 fits 10000) tt
@@ -34,14 +37,14 @@ twice_sum h l p = ring integers_laws (h ∷ l ∷ p ∷ []) (search reads depth 
 -- and make the number, or twice the number
 doubled_sum : (d : ℕ) (h l p z : ℤ) → z ≡ h *ℤ p +ℤ l → doubled d h *ℤ p +ℤ doubled d l ≡ (if nat_lt 0 d then pos 2 *ℤ z else z)
 doubled_sum zero h l p z e = sym e
-doubled_sum (suc d) h l p z e = twice_sum h l p ∙ ap (λ x. pos 2 *ℤ x) (sym e)
+doubled_sum (suc d) h l p z e = twice_sum h l p ∙ ap (λ x. pos 2 *ℤ x) (sym e) ∙ sym (cond-true (nat_lt 0 (suc d)) (pos 2 *ℤ z) z (divided d))
 
 module _ (n p divisions : ℕ) (a b : ScaledTable) (front : IsFront n p divisions a b) (span : List Bool) (packable : IsPackable n span 8 5 b.table)
     (small : nat_lt 0 divisions ≡ true → IsPackable n span 5 4 b.table) (blocks : HasSmallBlocks (4 ^ n) span) where
-  high_before : ℕ → ℤ
+  abbrev pub high_before : ℕ → ℤ
   high_before column = weighed (4 ^ n) (before_letter n p divisions (high_weights (4 ^ n) span)) a.table column
 
-  low_before : ℕ → ℤ
+  abbrev pub low_before : ℕ → ℤ
   low_before column = weighed (4 ^ n) (before_letter n p divisions (low_weights (4 ^ n) span)) a.table column
 
   -- sums before the letter are those behind it, doubled where it is divided
@@ -51,7 +54,6 @@ module _ (n p divisions : ℕ) (a b : ScaledTable) (front : IsFront n p division
   -- so they make the numbers
   pub halves_of_front : (folds highs lows : List ℕ) → AreFrontSums n p divisions span a.table folds highs lows
       → AreHalves (4 ^ n) highs lows (nat_lt 0 divisions) high_before low_before (column_number (4 ^ n) span b.table)
-  unfolding high_before low_before
   halves_of_front folds highs lows sums column l =
       let high = weighed (4 ^ n) (high_weights (4 ^ n) span) b.table column in
       let low = weighed (4 ^ n) (low_weights (4 ^ n) span) b.table column in
@@ -98,8 +100,8 @@ module _ (n : ℕ) (span : List Bool) (m : SurdTable) (packable : IsPackable n s
       let here = led column l in
       let top = top_digit (2 * nat_abs number) (some_size number here.0) in
       let e = are column l in
-      let lead = number_lead n span m packable column l top.0 (subst (λ z. 256 ^ top.0 ≤ 2 * nat_abs z) e top.1.0) (subst (λ z. 2 * nat_abs z < 256 ^ (top.0 + 1)) e top.1.1) in
-      subst (IsLeadRow (4 ^ n) m column) (sym (here.1 top.0 top.1.0 top.1.1 lead.0)) lead.1
+      let lead = number_lead n span m packable column l top.0 (subst (λ z. 256 ^ top.0 ≤ 2 * nat_abs z) e top.1) (subst (λ z. 2 * nat_abs z < 256 ^ (top.0 + 1)) e top.2) in
+      subst (IsLeadRow (4 ^ n) m column) (sym (here.1 top.0 top.1 top.2 lead.0)) lead.1
 
   -- and the numbers' signs those of the columns
   pub signs_of_numbers : TellSigns n m numbers

@@ -18,7 +18,7 @@ pub use blocks::Blocks;
 pub use columns::Columns;
 pub use numbers::{lead_of, number_of};
 pub use parities::Parities;
-pub use places::{place_powers, placed_sum, tag_of_sum, top_power};
+pub use places::{find_places, place_powers, placed_sum, tag_of_sum, top_power};
 pub use spans::{empty_span, widen};
 pub use suffix::Suffix;
 pub use sums::weigh_columns;

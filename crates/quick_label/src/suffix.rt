@@ -10,7 +10,6 @@ ghost use Rattle.quick_label.specs.Columns.{HoldsColumns};
 ghost use Rattle.quick_label.specs.FrontRooms.{IsFrontRoom, AreFrontSums};
 ghost use Rattle.quick_label.specs.Rooms.{AreBlocks};
 ghost use Rattle.quick_label.specs.Spans.{AreSpan};
-ghost use Rattle.quick_label.specs.Suffixes.{IsSuffix};
 ghost use Rattle.quick_label.specs.Weights.{IsLetterOf};
 
 use crate::front::{Front, find_leads, number_columns};
@@ -42,9 +41,13 @@ pub struct Suffix {
 }
 
 impl Model for Suffix {
+    ghost use Rattle.coset_label.specs.Words.{RotationWord};
+
     ghost Value = { RotationWord };
 
     ghost view = { λ s. s.word };
+
+    ghost use Rattle.quick_label.specs.Suffixes.{IsSuffix};
 
     ghost invariant = { IsSuffix };
 }
