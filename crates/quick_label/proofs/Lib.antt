@@ -1,7 +1,9 @@
 pub mod Letters
-pub mod SmallNumbers
 pub mod Graded
 pub mod Halves
+pub mod FrontNumbers
 pub mod DigitOrder
 pub mod Leads
+pub mod SmallNumbers
+pub mod PackableWords
 pub mod WholeNumbers
