@@ -17,7 +17,7 @@ use Rattle.label_laws.specs.Digits.{signed_number, AreSignedDigits}
 use Rattle.label_laws.proofs.Digits.{signed_between}
 use Rattle.quick_label.specs.Blocks.{in_block, block_rows}
 use Rattle.quick_label.specs.Numbers.{digit, column_number}
-use Rattle.quick_label.specs.Tables.{IsPackable, IsLeadRow}
+use Rattle.quick_label.specs.Tables.{SurdUpTo, IsPackable, IsLeadRow}
 use Rattle.quick_label.proofs.DigitOrder.{digits_rank, digit-zero}
 use Rattle.quick_label.proofs.Graded.{digits_of, rows_of, digits_yes, digits_no, rows_yes, rows_no, digits-length, digits_all}
 
@@ -122,35 +122,47 @@ module _ (n : ℕ) (span : List Bool) (m : SurdTable) (packable : IsPackable n s
     | inr d ↦ zeros r (omega arith)
   ]
 
-  tells_from : (row count : ℕ) → row + count ≡ 4 ^ n → ((r : ℕ) → r < row → cell r ≡ zero_surd) → (behind : ℕ) → Tells behind (digits row count) (rows_of keep row count)
+  -- a row of the block: its digit is 0 and the rows behind it tell, or it is the lead row
+  tells_here : (row count : ℕ) → row + suc count ≡ 4 ^ n → ((r : ℕ) → r < row → cell r ≡ zero_surd) → (behind : ℕ)
+      → (cell row ≡ zero_surd → Tells behind (digits (row + 1) count) (rows_of keep (row + 1) count))
+      → Tells behind (digit (cell row) ∷ digits (row + 1) count) (row ∷ rows_of keep (row + 1) count)
   unfolding surd_integer
-  tells_from row zero e zeros behind = λ low high. absurd (let one = one-le-pow behind 256 (lit< tt) in omega arith)
-  tells_from row (suc count) e zeros behind = elim (cases_Bool (keep row)) [
-    | inr out ↦
-        subst (λ ds. Tells behind ds (rows_of keep row (suc count))) (sym (digits_no keep cell row count out))
-        (subst (Tells behind (digits (row + 1) count)) (sym (rows_no keep cell row count out))
-        (tells_from (row + 1) count (omega arith) (zeros_more row zeros (packable.sparse row column (omega arith) lc out)) behind))
-    | inl in_it ↦
-        subst (λ ds. Tells behind ds (rows_of keep row (suc count))) (sym (digits_yes keep cell row count in_it))
-        (subst (Tells behind (digit (cell row) ∷ digits (row + 1) count)) (sym (rows_yes keep cell row count in_it))
-        (elim (whether (digit (cell row))) [
-          | inl none ↦ λ low high. leads_more behind row (rows_of keep (row + 1) count)
-              (tells_from (row + 1) count (omega arith) (zeros_more row zeros (is_zero none)) behind
-              (subst (λ z. 256 ^ behind ≤ 2 * nat_abs z) (drop_front none) low) (subst (λ z. 2 * nat_abs z < 256 ^ (behind + 1)) (drop_front none) high))
-          | inr some ↦ λ low high.
-              subst (λ k. Leads k (reverse (row ∷ rows_of keep (row + 1) count)))
-              (sym (first_place (digit (cell row)) (digits (row + 1) count) (digits_rank.small (cell row) (packable.small row column (omega arith) lc), small_from (row + 1) count (omega arith)) some behind low high))
-              (leads_here row (rows_of keep (row + 1) count) (digits (row + 1) count) (digits-length keep cell (row + 1) count) (omega arith) zeros some)
-        ]))
+  tells_here row count e zeros behind later low high = elim (whether (digit (cell row))) [
+    | inl none ↦
+        (let number = drop_front none in
+        leads_more behind row (rows_of keep (row + 1) count)
+        (later (is_zero none) (subst (λ z. 256 ^ behind ≤ 2 * nat_abs z) number low) (subst (λ z. 2 * nat_abs z < 256 ^ (behind + 1)) number high)))
+    | inr some ↦
+        (let place = first_place (digit (cell row)) (digits (row + 1) count) (digits_rank.small (cell row) small, small_from (row + 1) count (omega arith)) some behind low high in
+        subst (λ k. Leads k (reverse (row ∷ rows_of keep (row + 1) count))) (sym place)
+        (leads_here row (rows_of keep (row + 1) count) (digits (row + 1) count) (digits-length keep cell (row + 1) count) (omega arith) zeros some))
   ]
     where
+      small : SurdUpTo 8 5 (cell row)
+      small = packable.small row column (omega arith) lc
+
       is_zero : digit (cell row) ≡ pos 0 → cell row ≡ zero_surd
-      is_zero none = let parts = digit-zero (cell row) (packable.small row column (omega arith) lc) none in same_surd parts.0 parts.1
+      is_zero none = let parts = digit-zero (cell row) small none in same_surd parts.0 parts.1
 
       drop_front : digit (cell row) ≡ pos 0 → signed_number 256 (digit (cell row) ∷ digits (row + 1) count) ≡ signed_number 256 (digits (row + 1) count)
       drop_front none =
           ap (λ d. d *ℤ pos (256 ^ length (digits (row + 1) count)) +ℤ signed_number 256 (digits (row + 1) count)) none
           ∙ no_front (signed_number 256 (digits (row + 1) count)) (pos (256 ^ length (digits (row + 1) count)))
+
+  tells_from : (row count : ℕ) → row + count ≡ 4 ^ n → ((r : ℕ) → r < row → cell r ≡ zero_surd) → (behind : ℕ) → Tells behind (digits row count) (rows_of keep row count)
+  tells_from row zero e zeros behind low high = absurd (let one = one-le-pow behind 256 (lit< tt) in omega arith)
+  tells_from row (suc count) e zeros behind low high =
+      let later : cell row ≡ zero_surd → Tells behind (digits (row + 1) count) (rows_of keep (row + 1) count) = λ none. tells_from (row + 1) count (omega arith) (zeros_more row zeros none) behind in
+      elim (cases_Bool (keep row)) [
+        | inr out ↦
+            (let numbers = digits_no keep cell row count out in
+            subst (Leads behind) (sym (ap reverse (rows_no keep cell row count out)))
+            (later (packable.sparse row column (omega arith) lc out) (subst (λ ds. 256 ^ behind ≤ 2 * nat_abs (signed_number 256 ds)) numbers low) (subst (λ ds. 2 * nat_abs (signed_number 256 ds) < 256 ^ (behind + 1)) numbers high)))
+        | inl kept ↦
+            (let numbers = digits_yes keep cell row count kept in
+            subst (Leads behind) (sym (ap reverse (rows_yes keep cell row count kept)))
+            (tells_here row count e zeros behind later (subst (λ ds. 256 ^ behind ≤ 2 * nat_abs (signed_number 256 ds)) numbers low) (subst (λ ds. 2 * nat_abs (signed_number 256 ds) < 256 ^ (behind + 1)) numbers high)))
+      ]
 
   -- so does the whole number
   pub number_lead : (behind : ℕ) → 256 ^ behind ≤ 2 * nat_abs (column_number (4 ^ n) span m column) → 2 * nat_abs (column_number (4 ^ n) span m column) < 256 ^ (behind + 1)

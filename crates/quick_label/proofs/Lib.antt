@@ -8,11 +8,13 @@ pub mod SetOne
 pub mod PlacedSums
 pub mod Counts
 pub mod Letters
-pub mod SmallNumbers
 pub mod Graded
 pub mod Halves
+pub mod FrontNumbers
 pub mod DigitOrder
 pub mod Leads
+pub mod SmallNumbers
+pub mod PackableWords
 pub mod WholeNumbers
 pub mod LetterRows
 pub mod QuickMarks

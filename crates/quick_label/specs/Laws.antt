@@ -2,12 +2,15 @@
 use Rattle.std.specs.Prelude.{◌≡◌, ℕ, ◌+◌, ◌*◌, ◌^◌, ◌<◌, ◌≤◌, pos, ◌+ℤ◌, ◌*ℤ◌, nat_abs, int_lt, Bool, true, List, length, slice_index}
 use Rattle.std.specs.Ordering.{int_cmp}
 use Rattle.std.specs.Cmp.Lexicographic.{slice_cmp}
-use Rattle.channel_rep.specs.Tables.{SurdTable, ScaledTable, by_rotation, stepped, SameTable, IsCircuitChannel}
+use Rattle.channel_rep.specs.Tables.{SurdTable, ScaledTable, by_rotation, stepped, SameTable, IsBuiltOf, IsCircuitChannel}
+use Rattle.channel_rep.specs.Words.{IsWord}
+use Rattle.coset_label.specs.Words.{word_steps}
 use Rattle.coset_label.specs.Labels.{column_of, leads_negative, with_fixed_sign}
 use Rattle.label_laws.specs.Digits.{without_sign}
 use Rattle.label_laws.specs.Folds.{weighed}
 use Rattle.quick_label.specs.Blocks.{in_block, block_rows}
 use Rattle.quick_label.specs.Numbers.{column_number, high_weights, low_weights}
+use Rattle.quick_label.specs.Spans.{AreSpan}
 use Rattle.quick_label.specs.Tables.{SurdUpTo, IsPackable, IsLeadRow}
 use Rattle.quick_label.specs.Weights.{before_letter, doubled}
 
@@ -33,6 +36,17 @@ HalvesAreBelow most_a most_b bound = (n : ℕ) (span : List Bool) (m : SurdTable
 abbrev pub HalvesFit : Type 0
 HalvesFit = HalvesAreBelow 8 5 (2 ^ 63) × HalvesAreBelow 5 4 (2 ^ 62)
 
+-- so the number of a column behind a letter, or twice that number, comes of two sums over the cells before the letter, which fit
+-- 64 bits with a sign
+abbrev pub NumbersBeforeLetters : Type 0
+NumbersBeforeLetters = (n p : ℕ) → p < 4 ^ n → (a b : ScaledTable) → SameTable n b (stepped n (by_rotation p) a)
+    → (divisions : ℕ) → divisions ≤ 2 → b.exponent + divisions ≡ a.exponent + 1
+    → (span : List Bool) → IsPackable n span 8 5 b.table → (0 < divisions → IsPackable n span 5 4 b.table)
+    → (column : ℕ) → column < 4 ^ n → length (block_rows (4 ^ n) span column) ≤ 16
+    → let high = weighed (4 ^ n) (before_letter n p divisions (high_weights (4 ^ n) span)) a.table column in
+    let low = weighed (4 ^ n) (before_letter n p divisions (low_weights (4 ^ n) span)) a.table column in
+    (nat_abs high < 2 ^ 63) × (nat_abs low < 2 ^ 63) × (high *ℤ pos (2 ^ 64) +ℤ low ≡ doubled divisions (column_number (4 ^ n) span b.table column))
+
 -- a column leads with a negative number exactly where its own number is negative
 abbrev pub NumbersTellSigns : Type 0
 NumbersTellSigns = (n : ℕ) (span : List Bool) (m : SurdTable) → IsPackable n span 8 5 m → (column : ℕ) → column < 4 ^ n
@@ -54,3 +68,8 @@ NumbersTellLeads = (n : ℕ) (span : List Bool) (m : SurdTable) → IsPackable n
 abbrev pub SmallByNorm : Type 0
 SmallByNorm = (n : ℕ) → 0 < n → n ≤ 3 → (m : ScaledTable) → IsCircuitChannel n m → (row column : ℕ) → row < 4 ^ n → column < 4 ^ n
     → (m.exponent ≤ 6 → SurdUpTo 8 5 (m.table row column)) × (m.exponent ≤ 5 → SurdUpTo 5 4 (m.table row column))
+
+-- so the channel of a word, whose letters' span is marked, can be told by its columns' numbers
+abbrev pub WordsArePackable : Type 0
+WordsArePackable = (n : ℕ) → 0 < n → n ≤ 3 → (word : List ℕ) → IsWord n word → (span : List Bool) → AreSpan n word span → (m : ScaledTable) → IsBuiltOf n (word_steps word) m
+    → (m.exponent ≤ 6 → IsPackable n span 8 5 m.table) × (m.exponent ≤ 5 → IsPackable n span 5 4 m.table)

@@ -1,7 +1,7 @@
 //! The facts on which quick marks rest.
 //!
 //! Each of these functions does nothing. Its contract is the law, for a caller's proof to use.
-ghost use Rattle.quick_label.specs.Laws.{SumsBeforeLetters, NumbersAreSums, HalvesFit, NumbersTellSigns, NumbersTellOrder, NumbersTellLeads, SmallByNorm};
+ghost use Rattle.quick_label.specs.Laws.{SumsBeforeLetters, NumbersAreSums, HalvesFit, NumbersTellSigns, NumbersTellOrder, NumbersBeforeLetters, NumbersTellLeads, SmallByNorm, WordsArePackable};
 
 /// The sums of a table's columns behind a letter are those of the columns before it, by other weights.
 pub fn sums_before_letters()
@@ -12,6 +12,11 @@ pub fn sums_before_letters()
 pub fn numbers_are_sums()
     ensures sums { NumbersAreSums }
     ensures fit { HalvesFit }
+{}
+
+/// The number of a column behind a letter comes of two sums over the cells before it.
+pub fn numbers_before_letters()
+    ensures { NumbersBeforeLetters }
 {}
 
 /// A column has the sign of its number, and the columns of one block stand in the order of their numbers without signs.
@@ -28,4 +33,9 @@ pub fn numbers_tell_leads()
 /// The numbers of a circuit's channel are small where its exponent is.
 pub fn small_by_norm()
     ensures { SmallByNorm }
+{}
+
+/// The channel of a word can be told by its columns' numbers where its exponent is small.
+pub fn words_are_packable()
+    ensures { WordsArePackable }
 {}
