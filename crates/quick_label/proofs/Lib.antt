@@ -20,3 +20,4 @@ pub mod LetterRows
 pub mod QuickMarks
 pub mod WeightRows
 pub mod CountedPlaces
+pub mod Closed

@@ -49,7 +49,18 @@ impl Model for Suffix {
 
     ghost use Rattle.quick_label.specs.Suffixes.{IsSuffix};
 
-    ghost invariant = { IsSuffix };
+    ghost invariant = { λ s. IsSuffix (record {
+      word = s.word;
+      channel = s.channel;
+      columns = s.columns;
+      parities = s.parities;
+      span = s.span.items;
+      turns = s.turns;
+      fold = s.fold;
+      powers = s.powers.items;
+      top = s.top;
+      front = s.front;
+    }) };
 }
 
 /// Makes `span` the span of a word's letters, in room for one span more.
@@ -79,6 +90,7 @@ fn most_exponent_behind(divisions: u8) -> u32
 
 /// Writes the sums of the word's columns, by the weights of the fold and of the digits before a letter.
 fn weigh_front(
+    n: u8,
     columns: &Columns,
     fold: &Weights,
     commuting: &[bool],
@@ -87,7 +99,6 @@ fn weigh_front(
     divisions: u8,
     front: &mut Front,
 )
-    ghost n: { ℕ }
     requires room { IsFrontRoom n front.old }
     requires columns { columns.now.size ≡ 4 ^ n }
     requires fold { length fold.now.wholes ≡ 4 ^ n }
@@ -101,14 +112,35 @@ fn weigh_front(
         → AreWeights (4 ^ n) (weights (4 ^ n)) fold.now.wholes fold.now.parts → AreBlocks (4 ^ n) span front.old.blocks
         → AreFrontSums n p divisions span m front.new.folds.items front.new.highs.items front.new.lows.items }
 {
-    front.before.take_before(fold, commuting, negative, p, divisions);
-    weigh_columns(columns, front.before.wholes(), front.before.parts(), &mut front.folds);
+    front
+        .before
+        .take_before(fold, commuting, negative, p, divisions);
+    weigh_columns(
+        columns,
+        front.before.wholes(),
+        front.before.parts(),
+        &mut front.folds,
+    );
     front.behind.take_high(&front.blocks);
-    front.before.take_before(&front.behind, commuting, negative, p, divisions);
-    weigh_columns(columns, front.before.wholes(), front.before.parts(), &mut front.highs);
+    front
+        .before
+        .take_before(&front.behind, commuting, negative, p, divisions);
+    weigh_columns(
+        columns,
+        front.before.wholes(),
+        front.before.parts(),
+        &mut front.highs,
+    );
     front.behind.take_low(&front.blocks);
-    front.before.take_before(&front.behind, commuting, negative, p, divisions);
-    weigh_columns(columns, front.before.wholes(), front.before.parts(), &mut front.lows);
+    front
+        .before
+        .take_before(&front.behind, commuting, negative, p, divisions);
+    weigh_columns(
+        columns,
+        front.before.wholes(),
+        front.before.parts(),
+        &mut front.lows,
+    );
 }
 
 impl Suffix {
@@ -182,12 +214,26 @@ impl Suffix {
             return None;
         }
         let negative = self.turns.negative(p);
-        weigh_front(&self.columns, &self.fold, commuting, negative, p, divisions, front);
+        weigh_front(
+            self.word.qubits(),
+            &self.columns,
+            &self.fold,
+            commuting,
+            negative,
+            p,
+            divisions,
+            front,
+        );
         number_columns(&front.highs, &front.lows, divisions > 0, &mut front.numbers);
         if !find_leads(&front.numbers, &front.blocks, &mut front.leads) {
             return None;
         }
-        find_places(&front.numbers, &front.leads, &front.blocks, &mut front.places);
+        find_places(
+            &front.numbers,
+            &front.leads,
+            &front.blocks,
+            &mut front.places,
+        );
         let sum = placed_sum(0, &front.folds, &front.numbers, &front.places, &self.powers);
         let tag = tag_of_sum(exponent, sum, divisions > 0, self.top);
         Some(Mark { exponent, tag })

@@ -19,8 +19,7 @@ loop-column-preserved c = λ span are all.
     (λ k lead. (slice_index_or numbers k (pos 0) ≢ pos 0)
     × ((behind : ℕ) → 256 ^ behind ≤ 2 * nat_abs (slice_index_or numbers k (pos 0)) → 2 * nat_abs (slice_index_or numbers k (pos 0)) < 256 ^ (behind + 1)
     → behind < length (block_rows size span k) → lead ≡ slice_index (block_rows size span k) behind))
-    c.loop-column.leads column _ 0 (omega arith) (c.loop-column.invariant span are both.0)
-    (
+    c.loop-column.leads column _ 0 (omega arith) (c.loop-column.invariant span are both.0) (
       λ e. absurd (true≢false (sym both.1 ∙ ap (λ (z : ℤ). not (eqb (of_z w128 z) 0)) e)),
       λ behind low high inside.
           let rows = c.rows_of.ensures span are in
