@@ -21,11 +21,15 @@ pub record IsFrontRoom (n : ℕ) (f : Front) : Type 0 where
   pub leads : length f.leads.items ≡ 4 ^ n
   pub places : length f.places.items ≡ 4 ^ n
 
--- the sums of a table's columns before a letter, by the weights of the fold and of the high and the low digits, modulo 2^64
+-- the sum of each column of a table by weights, modulo 2^64
+abbrev pub AreColumnSums : ℕ → SurdTable → SurdTable → List ℕ → Type 0
+AreColumnSums size w m sums = (column : ℕ) → column < size → IsCongruent (2 ^ 64) (weighed size w m column) (slice_index sums column)
+
+-- the sums before a letter, for the weights of the fold and for those of the high and the low digits behind it
 pub record AreFrontSums (n p divisions : ℕ) (span : List Bool) (m : SurdTable) (folds highs lows : List ℕ) : Type 0 where
-  pub fold_sums : (column : ℕ) → column < 4 ^ n → IsCongruent (2 ^ 64) (weighed (4 ^ n) (before_letter n p divisions (weights (4 ^ n))) m column) (slice_index folds column)
-  pub high_sums : (column : ℕ) → column < 4 ^ n → IsCongruent (2 ^ 64) (weighed (4 ^ n) (before_letter n p divisions (high_weights (4 ^ n) span)) m column) (slice_index highs column)
-  pub low_sums : (column : ℕ) → column < 4 ^ n → IsCongruent (2 ^ 64) (weighed (4 ^ n) (before_letter n p divisions (low_weights (4 ^ n) span)) m column) (slice_index lows column)
+  pub fold_sums : AreColumnSums (4 ^ n) (before_letter n p divisions (weights (4 ^ n))) m folds
+  pub high_sums : AreColumnSums (4 ^ n) (before_letter n p divisions (high_weights (4 ^ n) span)) m highs
+  pub low_sums : AreColumnSums (4 ^ n) (before_letter n p divisions (low_weights (4 ^ n) span)) m lows
 
 -- the halves of a number, or of twice the number, are these modulo 2^64, and fit 64 bits with a sign
 pub record HasHalves (high low : ℕ) (halve : Bool) (x y z : ℤ) : Type 0 where
