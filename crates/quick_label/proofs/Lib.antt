@@ -21,3 +21,6 @@ pub mod QuickMarks
 pub mod WeightRows
 pub mod CountedPlaces
 pub mod Closed
+pub mod BlockHomes
+pub mod BlockRows
+pub mod SuffixFacts
