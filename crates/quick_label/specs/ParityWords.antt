@@ -1,4 +1,5 @@
 -- The parities of a table's numbers by rows, as words of bits.
+-- Source: Giles and Selinger, Exact synthesis of multiqubit Clifford+T circuits, 2013, for residues modulo 2.
 use Rattle.std.specs.Prelude.{◌≡◌, ℕ, ◌^◌, ◌<◌, ◌≤◌, List, length, slice_index}
 use Rattle.std.specs.Int.{bit_at}
 use Rattle.channel_rep.specs.Tables.{SurdTable}
