@@ -1,2 +1,4 @@
 pub mod LetterRows
 pub mod WeightRows
+pub mod BlockHomes
+pub mod BlockRows
