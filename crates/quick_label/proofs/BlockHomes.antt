@@ -40,9 +40,9 @@ module _ (span : List Bool) (home v : ℕ) (before homes : List ℕ) (h : AreSet
     ];
     later = λ x l m. get_or-set_other homes (product_code home v) x home 0 (λ g. let back : product_code home x ≡ v = ap (product_code home) g ∙ product_code-back home v in omega arith) ∙ h.later x l (omega arith);
     outside = λ x l e.
-      get_or-set_other homes (product_code home v) x home 0
-      (λ g. apart (ap (λ (w : ℕ). slice_index_or span w false) (ap (product_code home) g ∙ product_code-back home v) ∙ is) e)
-      ∙ h.outside x l e;
+        get_or-set_other homes (product_code home v) x home 0
+        (λ g. apart (ap (λ (w : ℕ). slice_index_or span w false) (ap (product_code home) g ∙ product_code-back home v) ∙ is) e)
+        ∙ h.outside x l e;
   }
 
   -- or not
@@ -161,9 +161,9 @@ span_marks n word span are = record {
   long = are.long;
   zero = (are.tells 0 (codes_some n)).1 (span_subspace word).zero;
   closed = λ x y z l m k e g.
-    (are.tells (product_code x z) (product_code-lt n x z l k)).1
-    (subst (IsInSpan word) (between x y z)
-    ((span_subspace word).closed (product_code x y) (product_code y z) ((are.tells (product_code x y) (product_code-lt n x y l m)).0 e) ((are.tells (product_code y z) (product_code-lt n y z m k)).0 g)));
+      (are.tells (product_code x z) (product_code-lt n x z l k)).1
+      (subst (IsInSpan word) (between x y z)
+      ((span_subspace word).closed (product_code x y) (product_code y z) ((are.tells (product_code x y) (product_code-lt n x y l m)).0 e) ((are.tells (product_code y z) (product_code-lt n y z m k)).0 g)));
 }
   where
     between : (x y z : ℕ) → product_code (product_code x y) (product_code y z) ≡ product_code x z

@@ -1,5 +1,5 @@
 -- The rows of a span's blocks, at their homes.
-use Rattle.std.proofs.Common.{◌≡◌, ◌≢◌, ℕ, zero, suc, ◌+◌, ◌-◌, ◌*◌, ◌/◌, ◌<◌, ◌≤◌, ◌==◌, Bool, true, false, List, [], ◌∷◌, ◌++◌, length, take, drop, reverse, filter, cond, slice_index, slice_range, inl, inr, refl, ap, sym, ◌∙◌, subst, arith, get_or-set_same, get_or-set_other, length-take, length-drop, length-append}
+use Rattle.std.proofs.Common.{◌≡◌, ◌≢◌, ℕ, zero, suc, ◌+◌, ◌-◌, ◌*◌, ◌/◌, ◌<◌, ◌≤◌, Bool, List, [], ◌∷◌, ◌++◌, length, take, drop, reverse, filter, cond, slice_index, inl, inr, refl, ap, sym, ◌∙◌, subst, arith, get_or-set_same, get_or-set_other, length-take, length-drop, length-append}
 use Rattle.std.specs.List.{count_by, range_with_len}
 use Rattle.std.proofs.Math.ListN.{set, replicate, get_or-append}
 use Rattle.std.proofs.lemmas.Bool.{cases_eq, eq-eqb, ne_eqb}
@@ -11,7 +11,18 @@ use Rattle.channel_rep.proofs.Squares.{place-lt, row_of_place}
 use Rattle.pauli_basis.specs.Products.{product_code}
 use Rattle.quick_label.proofs.WeightRows.{given_back}
 use Rattle.quick_label.specs.Blocks.{in_block, block_rows, rows_behind}
-use Rattle.quick_label.specs.Rooms.{HeldBlocks, IsBlockRoom, held_rows, AreHomes, AreBlocks, HasSmallBlocks, ArePlaced, lives_at, rows_from}
+use Rattle.quick_label.specs.Rooms.{HeldBlocks, IsBlockRoom, held_rows, AreHomes, AreBlocks, HasSmallBlocks, ArePlaced, lives_at, rows_at}
+
+-- the rows with this home from a row on, the last one first
+abbrev pub rows_from : ℕ → List ℕ → ℕ → ℕ → List ℕ
+rows_from size homes from home = reverse (filter (lives_at homes home) (range_with_len from (size - from)))
+
+-- the rows from a row on stand at their homes, and each knows how many stand behind it
+pub record ArePlacedFrom (size : ℕ) (homes : List ℕ) (from : ℕ) (rows counts behind : List ℕ) : Type 0 where
+  pub counted : (home : ℕ) → home < size → slice_index counts home ≡ length (rows_from size homes from home)
+  pub placed : (home k : ℕ) → home < size → k < slice_index counts home → slice_index rows (home * size + k) ≡ slice_index (rows_from size homes from home) k
+  pub followed : (row : ℕ) → from ≤ row → row < size → slice_index behind row ≡ count_by (lives_at homes (slice_index homes row)) (range_with_len (row + 1) (size - 1 - row))
+  pub within : (row : ℕ) → from ≤ row → row < size → slice_index behind row < slice_index counts (slice_index homes row)
 
 -- ---- tests that agree on a range
 pub filter_range : (p q : ℕ → Bool) (a n : ℕ) → ((y : ℕ) → y < a + n → p y ≡ q y) → filter p (range_with_len a n) ≡ filter q (range_with_len a n)
@@ -51,7 +62,7 @@ module _ (size : ℕ) (homes : List ℕ) where
       omega (arith, rows_counted row home, count_by-le-length (lives_at homes home) (range_with_len row (size - row)), length-range_with_len row (size - row))
 
 -- no row is placed yet
-pub none_placed : (size : ℕ) (homes rows counts behind : List ℕ) → ((home : ℕ) → home < size → slice_index counts home ≡ 0) → ArePlaced size homes size rows counts behind
+pub none_placed : (size : ℕ) (homes rows counts behind : List ℕ) → ((home : ℕ) → home < size → slice_index counts home ≡ 0) → ArePlacedFrom size homes size rows counts behind
 none_placed size homes rows counts behind zeros = record {
   counted = λ home l. zeros home l ∙ sym (rows_counted size homes size home ∙ ap (λ (n : ℕ). count_by (lives_at homes home) (range_with_len size n)) none);
   placed = λ home k l m. absurd (omega (arith, zeros home l));
@@ -64,7 +75,7 @@ none_placed size homes rows counts behind zeros = record {
 
 -- the next one
 module _ (size : ℕ) (homes : List ℕ) (row : ℕ) (low : row < size) (below : (x : ℕ) → x < size → slice_index homes x < size) (rows counts behind : List ℕ)
-    (rows_long : length rows ≡ size * size) (counts_long : length counts ≡ size) (behind_long : length behind ≡ size) (h : ArePlaced size homes (row + 1) rows counts behind) where
+    (rows_long : length rows ≡ size * size) (counts_long : length counts ≡ size) (behind_long : length behind ≡ size) (h : ArePlacedFrom size homes (row + 1) rows counts behind) where
   abbrev home : ℕ
   home = slice_index homes row
 
@@ -107,12 +118,12 @@ module _ (size : ℕ) (homes : List ℕ) (row : ℕ) (low : row < size) (below :
   placed_own : (k : ℕ) → k < count + 1 → slice_index filled (home * size + k) ≡ slice_index (rows_from size homes row home) k
   placed_own k m = elim (cases_eq k count) [
     | inl e ↦
-      ap (λ (j : ℕ). slice_index filled (home * size + j)) e ∙ get_or-set_same rows (home * size + count) row 0 place_low
-      ∙ sym (ap (λ (xs : List ℕ). slice_index xs k) (rows_yes size homes row home low refl) ∙ get_or_push (rows_from size homes (row + 1) home) row 0 k (sym count_is ∙ sym e))
+        ap (λ (j : ℕ). slice_index filled (home * size + j)) e ∙ get_or-set_same rows (home * size + count) row 0 place_low
+        ∙ sym (ap (λ (xs : List ℕ). slice_index xs k) (rows_yes size homes row home low refl) ∙ get_or_push (rows_from size homes (row + 1) home) row 0 k (sym count_is ∙ sym e))
     | inr d ↦
-      get_or-set_other rows (home * size + count) (home * size + k) row 0 (λ g. d (omega arith))
-      ∙ h.placed home k home_low (omega arith)
-      ∙ sym (ap (λ (xs : List ℕ). slice_index xs k) (rows_yes size homes row home low refl) ∙ get_or-append (rows_from size homes (row + 1) home) (row ∷ []) 0 k (omega (arith, count_is)))
+        get_or-set_other rows (home * size + count) (home * size + k) row 0 (λ g. d (omega arith))
+        ∙ h.placed home k home_low (omega arith)
+        ∙ sym (ap (λ (xs : List ℕ). slice_index xs k) (rows_yes size homes row home low refl) ∙ get_or-append (rows_from size homes (row + 1) home) (row ∷ []) 0 k (omega (arith, count_is)))
   ]
 
   placed_other : (x k : ℕ) → x < size → x ≢ home → k < slice_index counts x → slice_index filled (x * size + k) ≡ slice_index (rows_from size homes row x) k
@@ -157,24 +168,44 @@ module _ (size : ℕ) (homes : List ℕ) (row : ℕ) (low : row < size) (below :
     | inr d ↦ omega (arith, get_or-set_other behind row r count 0 d, h.within r (omega arith) l, grown (slice_index homes r))
   ]
 
-  pub place_step : ArePlaced size homes row filled more after
+  pub place_step : ArePlacedFrom size homes row filled more after
   place_step = record { counted = counted_step; placed = placed_step; followed = followed_step; within = within_step }
 
+-- all of them
+pub all_placed : (size : ℕ) (homes : List ℕ) (from : ℕ) (rows counts behind : List ℕ) → from ≡ 0 → ArePlacedFrom size homes from rows counts behind → ArePlaced size homes rows counts behind
+all_placed size homes from rows counts behind e h = record {
+  counted = λ home l. h.counted home l ∙ ap length (same home);
+  placed = λ home k l m. h.placed home k l m ∙ ap (λ (xs : List ℕ). slice_index xs k) (same home);
+  followed = λ row l. h.followed row (omega arith) l;
+  within = λ row l. h.within row (omega arith) l;
+}
+  where
+    rest : size - from ≡ size
+    rest = omega arith
+
+    same : (home : ℕ) → rows_from size homes from home ≡ rows_at size homes home
+    same home = λ i. reverse (filter (lives_at homes home) (range_with_len (e i) (rest i)))
+
 -- ---- all rows
-module _ (size : ℕ) (span : List Bool) (homes rows counts behind : List ℕ) (long : length rows ≡ size * size) (a : AreHomes size span homes) (p : ArePlaced size homes 0 rows counts behind) where
+module _ (size : ℕ) (span : List Bool) (homes rows counts behind : List ℕ) (long : length rows ≡ size * size) (a : AreHomes size span homes) (p : ArePlaced size homes rows counts behind) where
   abbrev held : HeldBlocks
   held = record { size = size; homes = homes; rows = rows; counts = counts; behind = behind }
 
-  whole : size - 0 ≡ size
-  whole = omega arith
-
-  same_rows : (column : ℕ) → column < size → rows_from size homes 0 (slice_index homes column) ≡ block_rows size span column
+  same_rows : (column : ℕ) → column < size → rows_at size homes (slice_index homes column) ≡ block_rows size span column
   same_rows column l =
-      ap (λ (n : ℕ). reverse (filter (lives_at homes (slice_index homes column)) (range_with_len 0 n))) whole
-      ∙ ap reverse (filter_range (lives_at homes (slice_index homes column)) (in_block span column) 0 size (λ y m. a.same column y l (omega arith)))
+      ap reverse (filter_range (lives_at homes (slice_index homes column)) (in_block span column) 0 size (λ y m. a.same column y l (omega arith)))
+
+  rows_most : (home : ℕ) → length (rows_at size homes home) ≤ size
+  rows_most home =
+      omega (
+        arith,
+        length-reverse (filter (lives_at homes home) (range_with_len 0 size)) ∙ length-filter (lives_at homes home) (range_with_len 0 size),
+        count_by-le-length (lives_at homes home) (range_with_len 0 size),
+        length-range_with_len 0 size,
+      )
 
   pub few_rows : (home : ℕ) → home < size → slice_index counts home ≤ size
-  few_rows home l = omega (arith, p.counted home l, rows_few size homes 0 home)
+  few_rows home l = omega (arith, p.counted home l, rows_most home)
 
   rows_fit : (home : ℕ) → home < size → home * size + slice_index counts home ≤ length rows
   rows_fit home l = omega (arith, few_rows home l, mul-le (home + 1) size size size (omega arith) (omega arith))
@@ -197,7 +228,7 @@ module _ (size : ℕ) (span : List Bool) (homes rows counts behind : List ℕ) (
 
   behind_held : (row : ℕ) → row < size → slice_index behind row ≡ rows_behind size span row
   behind_held row l =
-      p.followed row (omega arith) l
+      p.followed row l
       ∙ count_range (lives_at homes (slice_index homes row)) (in_block span row) (row + 1) (size - 1 - row) (λ y m. a.same row y l (omega arith))
 
   pub blocks_held : AreBlocks size span held
@@ -206,7 +237,7 @@ module _ (size : ℕ) (span : List Bool) (homes rows counts behind : List ℕ) (
   pub small_held : ((home : ℕ) → home < size → slice_index counts home ≤ 16) → HasSmallBlocks size span
   small_held few = record {
     rows = λ column l. omega (arith, ap length (same_rows column l), p.counted (slice_index homes column) (a.below column l), few (slice_index homes column) (a.below column l));
-    behind = λ row l. omega (arith, behind_held row l, p.within row (omega arith) l, few (slice_index homes row) (a.below row l));
+    behind = λ row l. omega (arith, behind_held row l, p.within row l, few (slice_index homes row) (a.below row l));
   }
 
 -- ---- what is held
@@ -227,7 +258,7 @@ empty_room size homes rows counts behind some few closed e f g h = record {
 
 -- and with the blocks of a span
 pub full_room : (size : ℕ) (span : List Bool) (homes rows counts behind : List ℕ) → size ≤ 64 → ((x y : ℕ) → x < size → y < size → product_code x y < size)
-    → length homes ≡ size → length rows ≡ size * size → length counts ≡ size → length behind ≡ size → AreHomes size span homes → ArePlaced size homes 0 rows counts behind
+    → length homes ≡ size → length rows ≡ size * size → length counts ≡ size → length behind ≡ size → AreHomes size span homes → ArePlaced size homes rows counts behind
     → IsBlockRoom (record { size = size; homes = homes; rows = rows; counts = counts; behind = behind })
 full_room size span homes rows counts behind few closed e f g h a p = record {
   few = few;
@@ -244,9 +275,9 @@ full_room size span homes rows counts behind few closed e f g h a p = record {
 pub homes_known : (size : ℕ) (span : List Bool) (lent homes : List ℕ) → length lent ≡ size → AreHomes (length lent) span homes → AreHomes size span homes
 homes_known size span lent homes e a = subst (λ (n : ℕ). AreHomes n span homes) e a
 
-pub rows_known : (size : ℕ) (given homes rows counts behind : List ℕ) → given ≡ homes → length homes ≡ size → ArePlaced (length given) given 0 rows counts behind → ArePlaced size homes 0 rows counts behind
+pub rows_known : (size : ℕ) (given homes rows counts behind : List ℕ) → given ≡ homes → length homes ≡ size → ArePlaced (length given) given rows counts behind → ArePlaced size homes rows counts behind
 rows_known size given homes rows counts behind same e p =
-    subst (λ (n : ℕ). ArePlaced n homes 0 rows counts behind) e (subst (λ (xs : List ℕ). ArePlaced (length xs) xs 0 rows counts behind) same p)
+    subst (λ (n : ℕ). ArePlaced n homes rows counts behind) e (subst (λ (xs : List ℕ). ArePlaced (length xs) xs rows counts behind) same p)
 
 -- what four whole lists are after calls that write them
 pub all_given_back : (P : List ℕ → List ℕ → List ℕ → List ℕ → Type 0) (a b c d : List ℕ) (i j k l : ℕ) (o p q r : List ℕ) → length a ≡ i → length b ≡ j → length c ≡ k → length d ≡ l → P a b c d

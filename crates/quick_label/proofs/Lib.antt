@@ -19,8 +19,5 @@ pub mod WholeNumbers
 pub mod LetterRows
 pub mod QuickMarks
 pub mod WeightRows
-pub mod CountedPlaces
-pub mod Closed
 pub mod BlockHomes
 pub mod BlockRows
-pub mod SuffixFacts

@@ -1,4 +1,6 @@
 -- What callers see of the turns of all letters, and of the weights of rows.
+-- Source: Nielsen and Chuang, section 10.5.1, for products of Paulis; Knuth, The Art of Computer Programming, volume 2, section
+-- 4.1, for digits.
 use Rattle.std.specs.Prelude.{◌≡◌, ℕ, ◌+◌, ◌-◌, ◌*◌, ◌%◌, ◌^◌, ◌<◌, ◌≤◌, pos, Bool, List, length}
 use Rattle.tc_ring.specs.Surds.{Surd}
 use Rattle.label_laws.specs.Congruence.{IsCongruent}

@@ -1,4 +1,6 @@
 -- Room for the blocks of a span. A block's rows stand together at its home, a code of the block, and each column knows its home.
+-- Source: Gottesman, The Heisenberg representation of quantum computers, 1998, for Paulis as vectors of bits, whose subspaces and
+-- their cosets these are; that they are kept by homes is this program's own.
 use Rattle.std.specs.Prelude.{◌≡◌, ℕ, ◌+◌, ◌-◌, ◌*◌, ◌<◌, ◌≤◌, ◌==◌, Bool, true, List, length, filter, reverse, slice_index, slice_range}
 use Rattle.std.specs.List.{count_by, range_with_len}
 use Rattle.pauli_basis.specs.Products.{product_code}
@@ -54,13 +56,13 @@ pub record AreHomes (size : ℕ) (span : List Bool) (homes : List ℕ) : Type 0 
 abbrev pub lives_at : List ℕ → ℕ → ℕ → Bool
 lives_at homes home row = slice_index homes row == home
 
--- the rows with this home from a row on, the last one first
-abbrev pub rows_from : ℕ → List ℕ → ℕ → ℕ → List ℕ
-rows_from size homes from home = reverse (filter (lives_at homes home) (range_with_len from (size - from)))
+-- the rows with this home, the last one first
+abbrev pub rows_at : ℕ → List ℕ → ℕ → List ℕ
+rows_at size homes home = reverse (filter (lives_at homes home) (range_with_len 0 size))
 
--- the rows from a row on stand at their homes, and each knows how many stand behind it
-pub record ArePlaced (size : ℕ) (homes : List ℕ) (from : ℕ) (rows counts behind : List ℕ) : Type 0 where
-  pub counted : (home : ℕ) → home < size → slice_index counts home ≡ length (rows_from size homes from home)
-  pub placed : (home k : ℕ) → home < size → k < slice_index counts home → slice_index rows (home * size + k) ≡ slice_index (rows_from size homes from home) k
-  pub followed : (row : ℕ) → from ≤ row → row < size → slice_index behind row ≡ count_by (lives_at homes (slice_index homes row)) (range_with_len (row + 1) (size - 1 - row))
-  pub within : (row : ℕ) → from ≤ row → row < size → slice_index behind row < slice_index counts (slice_index homes row)
+-- the rows stand at their homes, and each knows how many stand behind it
+pub record ArePlaced (size : ℕ) (homes rows counts behind : List ℕ) : Type 0 where
+  pub counted : (home : ℕ) → home < size → slice_index counts home ≡ length (rows_at size homes home)
+  pub placed : (home k : ℕ) → home < size → k < slice_index counts home → slice_index rows (home * size + k) ≡ slice_index (rows_at size homes home) k
+  pub followed : (row : ℕ) → row < size → slice_index behind row ≡ count_by (lives_at homes (slice_index homes row)) (range_with_len (row + 1) (size - 1 - row))
+  pub within : (row : ℕ) → row < size → slice_index behind row < slice_index counts (slice_index homes row)

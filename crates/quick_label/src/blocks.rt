@@ -71,7 +71,7 @@ fn place_rows(homes: &[u8], rows: &mut [u8], counts: &mut [u8], behind: &mut [u8
     requires rows { length rows.old ≡ length homes.now * length homes.now }
     requires counts { length counts.old ≡ length homes.now }
     requires behind { length behind.old ≡ length homes.now }
-    ensures { ArePlaced (length homes.now) homes.now 0 rows.new counts.new behind.new }
+    ensures { ArePlaced (length homes.now) homes.now rows.new counts.new behind.new }
 {
     counts.fill(0);
     let mut row = homes.len();

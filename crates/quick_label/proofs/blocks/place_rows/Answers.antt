@@ -1,6 +1,5 @@
 use Rattle.std.proofs.Common.{◌≡◌, ℕ, ◌+◌, ◌-◌, length, refl, subst, arith}
-use Rattle.quick_label.specs.Rooms.{ArePlaced}
-use Rattle.quick_label.proofs.BlockRows.{none_placed, count_low, place_low, place_step}
+use Rattle.quick_label.proofs.BlockRows.{ArePlacedFrom, all_placed, none_placed, count_low, place_low, place_step}
 use Rattle.quick_label.proofs.blocks.place_rows.Goals as goal
 
 pub loop-row-init : goal.loop-row-init
@@ -13,7 +12,7 @@ pub bounds-rows-home : goal.bounds-rows-home
 bounds-rows-home c =
     let e : c.loop-row.row ≡ c.loop-row.row - 1 + 1 = omega arith in
     place_low (length c.args.homes.now) c.args.homes.now (c.loop-row.row - 1) (omega arith) c.requires.below c.loop-row.rows c.loop-row.counts c.loop-row.behind (omega arith) (omega arith) (omega arith)
-    (subst (λ (from : ℕ). ArePlaced (length c.args.homes.now) c.args.homes.now from c.loop-row.rows c.loop-row.counts c.loop-row.behind) e c.loop-row.invariant.placed)
+    (subst (λ (from : ℕ). ArePlacedFrom (length c.args.homes.now) c.args.homes.now from c.loop-row.rows c.loop-row.counts c.loop-row.behind) e c.loop-row.invariant.placed)
 
 pub overflow_add-counts : goal.overflow_add-counts
 overflow_add-counts c =
@@ -21,7 +20,7 @@ overflow_add-counts c =
     omega (
       arith,
       count_low (length c.args.homes.now) c.args.homes.now (c.loop-row.row - 1) (omega arith) c.requires.below c.loop-row.rows c.loop-row.counts c.loop-row.behind (omega arith) (omega arith) (omega arith)
-      (subst (λ (from : ℕ). ArePlaced (length c.args.homes.now) c.args.homes.now from c.loop-row.rows c.loop-row.counts c.loop-row.behind) e c.loop-row.invariant.placed),
+          (subst (λ (from : ℕ). ArePlacedFrom (length c.args.homes.now) c.args.homes.now from c.loop-row.rows c.loop-row.counts c.loop-row.behind) e c.loop-row.invariant.placed),
     )
 
 pub loop-row-preserved : goal.loop-row-preserved
@@ -30,10 +29,8 @@ loop-row-preserved c =
     record {
       low = omega arith;
       placed = place_step (length c.args.homes.now) c.args.homes.now (c.loop-row.row - 1) (omega arith) c.requires.below c.loop-row.rows c.loop-row.counts c.loop-row.behind (omega arith) (omega arith) (omega arith)
-      (subst (λ (from : ℕ). ArePlaced (length c.args.homes.now) c.args.homes.now from c.loop-row.rows c.loop-row.counts c.loop-row.behind) e c.loop-row.invariant.placed);
+          (subst (λ (from : ℕ). ArePlacedFrom (length c.args.homes.now) c.args.homes.now from c.loop-row.rows c.loop-row.counts c.loop-row.behind) e c.loop-row.invariant.placed);
     }
 
 pub returns : goal.returns
-returns c =
-    let e : c.loop-row.row ≡ 0 = omega arith in
-    subst (λ (from : ℕ). ArePlaced (length c.args.homes.now) c.args.homes.now from c.loop-row.rows c.loop-row.counts c.loop-row.behind) e c.loop-row.invariant.placed
+returns c = all_placed (length c.args.homes.now) c.args.homes.now c.loop-row.row c.loop-row.rows c.loop-row.counts c.loop-row.behind (omega arith) c.loop-row.invariant.placed

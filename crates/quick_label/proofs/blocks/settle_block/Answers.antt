@@ -9,9 +9,9 @@ loop-v-init c = record { settled = λ x l m e. absurd (omega arith); later = λ 
 pub loop-v-preserved : goal.loop-v-preserved
 loop-v-preserved c = elim c.if-span-v.branch [
   | then-span-v w ↦ subst (AreSettled c.args.span.now c.args.home _ c.args.homes.now) (sym w.homes-is)
-  (settle_one c.args.span.now c.args.home c.loop-v.v c.args.homes.now c.loop-v.homes c.loop-v.invariant (let low = c.requires.closed c.loop-v.v c.loop-v-test.true in omega arith) w.if-span-v.true)
+      (settle_one c.args.span.now c.args.home c.loop-v.v c.args.homes.now c.loop-v.homes c.loop-v.invariant (let low = c.requires.closed c.loop-v.v c.loop-v-test.true in omega arith) w.if-span-v.true)
   | else-span-v w ↦ subst (AreSettled c.args.span.now c.args.home _ c.args.homes.now) (sym w.homes-is)
-  (settle_none c.args.span.now c.args.home c.loop-v.v c.args.homes.now c.loop-v.homes c.loop-v.invariant w.if-span-v.false)
+      (settle_none c.args.span.now c.args.home c.loop-v.v c.args.homes.now c.loop-v.homes c.loop-v.invariant w.if-span-v.false)
 ]
 
 pub returns : goal.returns

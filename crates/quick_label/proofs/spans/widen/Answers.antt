@@ -1,4 +1,4 @@
-use Rattle.std.proofs.Common.{◌≡◌, ◌≢◌, ◌<◌, ◌⊎◌, ◌↔◌, ◌||◌, Bool, true, false, inl, inr, IsTrue, refl, sym, length, arith, get_or-set_other, get_or-set_same, below_more}
+use Rattle.std.proofs.Common.{◌≢◌, ◌<◌, ◌⊎◌, ◌↔◌, ◌||◌, Bool, true, false, inl, inr, IsTrue, refl, sym, length, arith, get_or-set_other, get_or-set_same, below_more}
 use Rattle.std.proofs.lemmas.Bool.{true≢false}
 use Rattle.pauli_basis.specs.Products.{product_code}
 use Rattle.quick_label.proofs.spans.widen.Goals as goal

@@ -1,4 +1,4 @@
-use Rattle.std.proofs.Common.{◌≡◌, ◌≢◌, ℕ, ◌+◌, ◌%◌, ◌^◌, slice_index, sym, ◌∙◌, subst, arith, get_or-set_other}
+use Rattle.std.proofs.Common.{ℕ, slice_index, sym, ◌∙◌, subst, arith, get_or-set_other}
 use Rattle.tc_ring.specs.Surds.{Surd, surd_times, root2_surd}
 use Rattle.quick_label.specs.Letters.{IsWeight}
 use Rattle.quick_label.proofs.WeightRows.{rows_below, root2_weight}

@@ -1,4 +1,4 @@
-use Rattle.std.proofs.Common.{◌≡◌, ℕ, ◌+◌, ◌*◌, ◌<◌, ◌≤◌, length, slice_index, slice_range, refl, ap, sym, ◌∙◌, subst, arith}
+use Rattle.std.proofs.Common.{◌≡◌, ◌+◌, ◌*◌, ◌<◌, ◌≤◌, length, slice_index, slice_range, refl, ap, ◌∙◌, arith}
 use Rattle.quick_label.specs.Rooms.{HeldBlocks}
 use Rattle.quick_label.proofs.WeightRows.{read_is}
 use Rattle.quick_label.proofs.BlockRows.{block_fits}
@@ -24,5 +24,5 @@ returns c span are =
     let home_in : c.index.result.now ≡ slice_index c.self.inside.homes.items c.args.column = read_is _ c.self.inside.homes.items c.args.column _ refl (omega (arith, c.self.invariant.homes)) c.index.ensures in
     let low : c.index.result.now < c.self.inside.size = omega (arith, c.self.invariant.homes_below c.args.column column) in
     let count : c.index-2.result.now ≡ slice_index c.args.self.now.counts (slice_index c.args.self.now.homes c.args.column) =
-      read_is _ _ c.index.result.now _ counts (omega (arith, c.self.invariant.counts, ap length counts)) c.index-2.ensures ∙ ap (slice_index c.args.self.now.counts) home in
+    read_is _ _ c.index.result.now _ counts (omega (arith, c.self.invariant.counts, ap length counts)) c.index-2.ensures ∙ ap (slice_index c.args.self.now.counts) home in
     (λ i. slice_range ((c.deref.ensures.value ∙ ap (λ (b : HeldBlocks). b.rows) c.self.view_is) i) (home i * size i) (home i * size i + count i)) ∙ are.rows c.args.column c.requires

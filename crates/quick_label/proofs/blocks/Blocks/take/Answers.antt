@@ -1,5 +1,5 @@
-use Rattle.std.proofs.Common.{◌≡◌, ℕ, ◌*◌, ◌<◌, ◌≤◌, List, length, slice_index, ap, sym, ◌∙◌, subst, arith}
-use Rattle.quick_label.specs.Rooms.{HeldBlocks, IsBlockRoom, AreHomes, AreBlocks, HasSmallBlocks, ArePlaced}
+use Rattle.std.proofs.Common.{◌≡◌, ℕ, ◌*◌, ◌<◌, ◌≤◌, List, length, slice_index, ap, ◌∙◌, subst, arith}
+use Rattle.quick_label.specs.Rooms.{HeldBlocks, IsBlockRoom, AreBlocks, HasSmallBlocks}
 use Rattle.quick_label.proofs.WeightRows.{given_back}
 use Rattle.quick_label.proofs.BlockRows.{full_room, homes_known, rows_known, all_given_back, blocks_held, small_held}
 use Rattle.quick_label.proofs.blocks.Blocks.take.Goals as goal

@@ -1,4 +1,4 @@
-use Rattle.std.proofs.Common.{◌≡◌, ℕ, ◌+◌, ◌*◌, ◌^◌, ◌<◌, ap, ◌∙◌, arith}
+use Rattle.std.proofs.Common.{◌≡◌, ℕ, ◌+◌, ◌*◌, ◌^◌, ap, ◌∙◌, arith}
 use Rattle.pauli_basis.specs.Products.{commute, anti_sign}
 use Rattle.quick_label.proofs.LetterRows.{at_place, place_below}
 use Rattle.quick_label.proofs.turns.Turns.new.Goals as goal
