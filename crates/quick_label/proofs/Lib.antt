@@ -8,3 +8,4 @@ pub mod DigitOrder
 pub mod Leads
 pub mod CountedPlaces
 pub mod LetterRows
+pub mod WeightRows

@@ -145,7 +145,8 @@ impl Blocks {
     /// How many rows of a row's own block stand behind it.
     pub fn behind(&self, row: usize) -> u8
         requires { row < self.now.size }
-        ensures { (span : List Bool) → AreBlocks self.now.size span self.now → result ≡ rows_behind self.now.size span row }
+        ensures value { result ≡ slice_index self.now.behind row }
+        ensures blocks { (span : List Bool) → AreBlocks self.now.size span self.now → result ≡ rows_behind self.now.size span row }
     {
         self.behind[row]
     }

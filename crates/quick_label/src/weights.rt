@@ -1,11 +1,12 @@
 // Weights of rows, modulo 2^64.
-ghost use Rattle.std.specs.Prelude.{◌≡◌, ℕ, ◌+◌, ◌*◌, ◌^◌, ◌<◌, ◌≤◌, Bool, false, List, length, IfOk, slice_index, slice_index_or, pos};
+ghost use Rattle.std.specs.Prelude.{◌≡◌, ℕ, ◌+◌, ◌*◌, ◌^◌, ◌<◌, ◌≤◌, Bool, false, List, length, IfOk, slice_index, slice_index_or, ℤ, ◌+ℤ◌};
 ghost use Rattle.pauli_basis.specs.Products.{product_code, commute, anti_sign};
 ghost use Rattle.channel_rep.specs.Tables.{SurdTable};
 ghost use Rattle.label_laws.specs.Congruence.{IsCongruent};
 ghost use Rattle.label_laws.specs.Folds.{weights, rotated_weights, root2_weights};
 ghost use Rattle.label_laws.specs.Sparse.{AreWeights};
-ghost use Rattle.quick_label.specs.Letters.{HeldWeights, IsWeightRoom};
+ghost use Rattle.label_laws.specs.Totals.{turned_whole};
+ghost use Rattle.quick_label.specs.Letters.{HeldWeights, IsWeightRoom, IsWeight, IsDigitWeight};
 ghost use Rattle.quick_label.specs.Numbers.{high_weights, low_weights};
 ghost use Rattle.quick_label.specs.Rooms.{AreBlocks};
 ghost use Rattle.quick_label.specs.Weights.{before_letter};
@@ -36,7 +37,7 @@ impl Model for Weights {
     ghost invariant = { λ w. IsWeightRoom (record { wholes = w.wholes.items; parts = w.parts.items }) };
 }
 
-/// The weights of the tag's fold: the last row's first, each BASE² times the one behind it.
+/// Fills in the weights of the tag's fold, the last row's first: each is BASE² times the one behind it.
 fn fill_fold(wholes: &mut [u64], parts: &mut [u64])
     requires { length parts.old ≡ length wholes.old }
     ensures { AreWeights (length wholes.old) (weights (length wholes.old)) wholes.new parts.new }
@@ -45,22 +46,77 @@ fn fill_fold(wholes: &mut [u64], parts: &mut [u64])
     let mut row = wholes.len();
     while row > 0 {
         row -= 1;
+        let whole = power.wrapping_mul(BASE);
         parts[row] = power;
-        wholes[row] = power.wrapping_mul(BASE);
-        power = wholes[row].wrapping_mul(BASE);
+        wholes[row] = whole;
+        power = whole.wrapping_mul(BASE);
     }
 }
 
-/// 256 to this power, modulo 2^64.
-fn digit_place(digits: u8) -> u64
-    ensures { IsCongruent (2 ^ 64) (pos (256 ^ digits)) result }
+/// The weight of a row's digit modulo 2^64, for the whole part and the part of √2: of the rows behind it the last ones are left
+/// out, and it is 0 but for the eight rows before those.
+fn digit_weight(behind: u8, last: u8) -> (u64, u64)
+    requires { last ≤ 8 }
+    ensures { IsDigitWeight behind last result.0 result.1 }
 {
-    if digits < 8 { 1 << (8 * digits) } else { 0 }
+    if behind < last {
+        return (0, 0);
+    }
+    let digits = behind - last;
+    if digits >= 8 {
+        return (0, 0);
+    }
+    let power = 1u64 << (8 * digits);
+    (power.wrapping_mul(WHOLE), power)
 }
 
-/// The weights behind a rotation by P are those before it times the rotation's rows: √2 times the weight of a row that commutes,
-/// and else the weight and that of its partner with a sign.
-fn rotate_weights(weights: &Weights, commuting: &[bool], negative: &[bool], p: usize, wholes: &mut [u64], parts: &mut [u64])
+/// Fills in the weights of the rows' digits.
+fn fill_digits(blocks: &Blocks, last: u8, wholes: &mut [u64], parts: &mut [u64])
+    requires few { last ≤ 8 }
+    requires wholes { length wholes.old ≡ blocks.now.size }
+    requires parts { length parts.old ≡ blocks.now.size }
+    ensures { (row : ℕ) → row < blocks.now.size
+        → IsDigitWeight (slice_index blocks.now.behind row) last (slice_index wholes.new row) (slice_index parts.new row) }
+{
+    for row in 0..blocks.size() {
+        let (whole, part) = digit_weight(blocks.behind(row), last);
+        wholes[row] = whole;
+        parts[row] = part;
+    }
+}
+
+/// A number and another, or its negative, added up modulo 2^64.
+fn turned_sum(x: u64, y: u64, negative: bool) -> u64
+    ensures { (a b : ℤ) → IsCongruent (2 ^ 64) a x → IsCongruent (2 ^ 64) b y → IsCongruent (2 ^ 64) (a +ℤ turned_whole negative b) result }
+{
+    if negative {
+        x.wrapping_sub(y)
+    } else {
+        x.wrapping_add(y)
+    }
+}
+
+/// The weight of a row before a rotation by P, for the whole part and the part of √2: √2 times the row's own where the row commutes
+/// with P, and else that and its partner's with a sign.
+fn rotated_weight(weights: &Weights, row: usize, partner: usize, commutes: bool, negative: bool) -> (u64, u64)
+    requires row { row < length weights.now.wholes }
+    requires partner { partner < length weights.now.wholes }
+    ensures { (n p : ℕ) (w : SurdTable) → partner ≡ product_code p row → commutes ≡ commute n p row → negative ≡ anti_sign n p row
+        → AreWeights (length weights.now.wholes) w weights.now.wholes weights.now.parts
+        → IsWeight (rotated_weights n false p w 0 row) result.0 result.1 }
+{
+    let (whole, part) = (weights.wholes[row], weights.parts[row]);
+    if commutes {
+        return (part, whole.wrapping_add(whole));
+    }
+    (
+        turned_sum(whole, weights.wholes[partner], negative),
+        turned_sum(part, weights.parts[partner], negative),
+    )
+}
+
+/// Fills in the weights before a rotation by the letter whose code is `p`.
+fn fill_rotated(weights: &Weights, commuting: &[bool], negative: &[bool], p: usize, wholes: &mut [u64], parts: &mut [u64])
     requires wholes { length wholes.old ≡ length weights.now.wholes }
     requires parts { length parts.old ≡ length weights.now.wholes }
     requires commuting { length commuting.now ≡ length weights.now.wholes }
@@ -73,18 +129,9 @@ fn rotate_weights(weights: &Weights, commuting: &[bool], negative: &[bool], p: u
         → AreWeights (length weights.now.wholes) (rotated_weights n false p w) wholes.new parts.new }
 {
     for row in 0..wholes.len() {
-        let (whole, part) = (weights.wholes[row], weights.parts[row]);
-        let partner = p ^ row;
-        if commuting[row] {
-            wholes[row] = part;
-            parts[row] = whole.wrapping_add(whole);
-        } else if negative[row] {
-            wholes[row] = whole.wrapping_sub(weights.wholes[partner]);
-            parts[row] = part.wrapping_sub(weights.parts[partner]);
-        } else {
-            wholes[row] = whole.wrapping_add(weights.wholes[partner]);
-            parts[row] = part.wrapping_add(weights.parts[partner]);
-        }
+        let (whole, part) = rotated_weight(weights, row, p ^ row, commuting[row], negative[row]);
+        wholes[row] = whole;
+        parts[row] = part;
     }
 }
 
@@ -146,12 +193,7 @@ impl Weights {
         ensures are { (span : List Bool) → AreBlocks blocks.now.size span blocks.now
             → AreWeights blocks.now.size (high_weights blocks.now.size span) self.new.wholes self.new.parts }
     {
-        for row in 0..blocks.size() {
-            let behind = blocks.behind(row);
-            let power = if behind < 8 { 0 } else { digit_place(behind - 8) };
-            self.parts[row] = power;
-            self.wholes[row] = power.wrapping_mul(WHOLE);
-        }
+        fill_digits(blocks, 8, &mut self.wholes, &mut self.parts);
     }
 
     /// Takes the weights of the last eight digits of each block.
@@ -161,11 +203,7 @@ impl Weights {
         ensures are { (span : List Bool) → AreBlocks blocks.now.size span blocks.now
             → AreWeights blocks.now.size (low_weights blocks.now.size span) self.new.wholes self.new.parts }
     {
-        for row in 0..blocks.size() {
-            let power = digit_place(blocks.behind(row));
-            self.parts[row] = power;
-            self.wholes[row] = power.wrapping_mul(WHOLE);
-        }
+        fill_digits(blocks, 0, &mut self.wholes, &mut self.parts);
     }
 
     /// Takes the weights before a letter, whose code is `p`: under them the cells before its rotation have the sums of those behind
@@ -182,7 +220,7 @@ impl Weights {
             → AreWeights (length weights.now.wholes) w weights.now.wholes weights.now.parts
             → AreWeights (length weights.now.wholes) (before_letter n p divisions w) self.new.wholes self.new.parts }
     {
-        rotate_weights(weights, commuting, negative, p, &mut self.wholes, &mut self.parts);
+        fill_rotated(weights, commuting, negative, p, &mut self.wholes, &mut self.parts);
         if divisions == 1 {
             multiply_by_root2(&mut self.wholes, &mut self.parts);
         }
