@@ -9,3 +9,5 @@ pub mod Leads
 pub mod CountedPlaces
 pub mod LetterRows
 pub mod WeightRows
+pub mod BlockHomes
+pub mod BlockRows

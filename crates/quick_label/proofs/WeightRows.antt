@@ -53,7 +53,7 @@ pub root2_weight : (x : Surd) (whole part : ℕ) → IsWeight x whole part → I
 root2_weight x whole part h = record {
   b = subst (λ (s : Surd). IsCongruent (2 ^ 64) s.b part) (sym (root2_surd-times x)) h.a;
   a = subst (λ (s : Surd). IsCongruent (2 ^ 64) s.a ((whole + whole) % 2 ^ 64)) (sym (root2_surd-times x))
-  (subst (λ (z : ℤ). IsCongruent (2 ^ 64) z ((whole + whole) % 2 ^ 64)) (doubled_is x.b) (cut-plus x.b x.b whole whole h.b h.b));
+      (subst (λ (z : ℤ). IsCongruent (2 ^ 64) z ((whole + whole) % 2 ^ 64)) (doubled_is x.b) (cut-plus x.b x.b whole whole h.b h.b));
 }
 
 -- ---- weights before a rotation
@@ -90,10 +90,10 @@ pub rows_below : (P : ℕ → ℕ → ℕ → Type 0) (wholes parts : List ℕ) 
     → (k : ℕ) → k < row + 1 → P k (slice_index (set wholes row whole) k) (slice_index (set parts row part) k)
 rows_below P wholes parts row whole part l l' here before k h = elim (cases_eq k row) [
   | inl e ↦ subst (λ (j : ℕ). P j (slice_index (set wholes row whole) j) (slice_index (set parts row part) j)) (sym e)
-  (subst (λ (v : ℕ). P row v (slice_index (set parts row part) row)) (sym (get_or-set_same wholes row whole 0 l))
-  (subst (P row whole) (sym (get_or-set_same parts row part 0 l')) here))
+      (subst (λ (v : ℕ). P row v (slice_index (set parts row part) row)) (sym (get_or-set_same wholes row whole 0 l))
+      (subst (P row whole) (sym (get_or-set_same parts row part 0 l')) here))
   | inr d ↦ subst (λ (v : ℕ). P k v (slice_index (set parts row part) k)) (sym (get_or-set_other wholes row k whole 0 d))
-  (subst (P k (slice_index wholes k)) (sym (get_or-set_other parts row k part 0 d)) (before k (omega arith)))
+      (subst (P k (slice_index wholes k)) (sym (get_or-set_other parts row k part 0 d)) (before k (omega arith)))
 ]
 
 -- and downwards
@@ -102,10 +102,10 @@ pub rows_from : (P : ℕ → ℕ → ℕ → Type 0) (wholes parts : List ℕ) (
     → (k : ℕ) → row ≤ k → k < end → P k (slice_index (set wholes row whole) k) (slice_index (set parts row part) k)
 rows_from P wholes parts row end whole part l l' here behind k low h = elim (cases_eq k row) [
   | inl e ↦ subst (λ (j : ℕ). P j (slice_index (set wholes row whole) j) (slice_index (set parts row part) j)) (sym e)
-  (subst (λ (v : ℕ). P row v (slice_index (set parts row part) row)) (sym (get_or-set_same wholes row whole 0 l))
-  (subst (P row whole) (sym (get_or-set_same parts row part 0 l')) here))
+      (subst (λ (v : ℕ). P row v (slice_index (set parts row part) row)) (sym (get_or-set_same wholes row whole 0 l))
+      (subst (P row whole) (sym (get_or-set_same parts row part 0 l')) here))
   | inr d ↦ subst (λ (v : ℕ). P k v (slice_index (set parts row part) k)) (sym (get_or-set_other wholes row k whole 0 d))
-  (subst (P k (slice_index wholes k)) (sym (get_or-set_other parts row k part 0 d)) (behind k (omega arith) h))
+      (subst (P k (slice_index wholes k)) (sym (get_or-set_other parts row k part 0 d)) (behind k (omega arith) h))
 ]
 
 -- ---- the fold
@@ -233,7 +233,7 @@ pub read_is : (xs ys : List ℕ) (i r : ℕ) → xs ≡ ys → i < length ys →
 read_is xs ys i r same l e = e ∙ ap (λ (zs : List ℕ). get_or zs i r) same ∙ get_or_default_zero ys i r l
 
 -- what a whole list is after a call that writes it
-given_back : (len : ℕ) (old new : List ℕ) → length new ≡ len → take len (new ++ drop (length new) old) ≡ new
+pub given_back : (len : ℕ) (old new : List ℕ) → length new ≡ len → take len (new ++ drop (length new) old) ≡ new
 given_back len old new e = ap (λ (k : ℕ). take k (new ++ drop (length new) old)) (sym e) ∙ take-append_seam new (drop (length new) old)
 
 pub put_back : (size : ℕ) (w : SurdTable) (len other : ℕ) (old old' wholes parts : List ℕ) → length wholes ≡ len → length parts ≡ other → AreWeights size w wholes parts

@@ -63,3 +63,4 @@ pub record ArePlaced (size : ℕ) (homes : List ℕ) (from : ℕ) (rows counts b
   pub counted : (home : ℕ) → home < size → slice_index counts home ≡ length (rows_from size homes from home)
   pub placed : (home k : ℕ) → home < size → k < slice_index counts home → slice_index rows (home * size + k) ≡ slice_index (rows_from size homes from home) k
   pub followed : (row : ℕ) → from ≤ row → row < size → slice_index behind row ≡ count_by (lives_at homes (slice_index homes row)) (range_with_len (row + 1) (size - 1 - row))
+  pub within : (row : ℕ) → from ≤ row → row < size → slice_index behind row < slice_index counts (slice_index homes row)

@@ -120,7 +120,12 @@ impl Blocks {
         ensures small { IsTrue result → HasSmallBlocks self.old.size span.now }
     {
         find_homes(span, &mut self.homes);
-        place_rows(&self.homes, &mut self.rows, &mut self.counts, &mut self.behind);
+        place_rows(
+            &self.homes,
+            &mut self.rows,
+            &mut self.counts,
+            &mut self.behind,
+        );
         has_small_counts(&self.counts)
     }
 

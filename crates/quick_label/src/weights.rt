@@ -98,7 +98,13 @@ fn turned_sum(x: u64, y: u64, negative: bool) -> u64
 
 /// The weight of a row before a rotation by P, for the whole part and the part of √2: √2 times the row's own where the row commutes
 /// with P, and else that and its partner's with a sign.
-fn rotated_weight(weights: &Weights, row: usize, partner: usize, commutes: bool, negative: bool) -> (u64, u64)
+fn rotated_weight(
+    weights: &Weights,
+    row: usize,
+    partner: usize,
+    commutes: bool,
+    negative: bool,
+) -> (u64, u64)
     requires row { row < length weights.now.wholes }
     requires partner { partner < length weights.now.wholes }
     ensures { (n p : ℕ) (w : SurdTable) → partner ≡ product_code p row → commutes ≡ commute n p row → negative ≡ anti_sign n p row
@@ -116,7 +122,14 @@ fn rotated_weight(weights: &Weights, row: usize, partner: usize, commutes: bool,
 }
 
 /// Fills in the weights before a rotation by the letter whose code is `p`.
-fn fill_rotated(weights: &Weights, commuting: &[bool], negative: &[bool], p: usize, wholes: &mut [u64], parts: &mut [u64])
+fn fill_rotated(
+    weights: &Weights,
+    commuting: &[bool],
+    negative: &[bool],
+    p: usize,
+    wholes: &mut [u64],
+    parts: &mut [u64],
+)
     requires wholes { length wholes.old ≡ length weights.now.wholes }
     requires parts { length parts.old ≡ length weights.now.wholes }
     requires commuting { length commuting.now ≡ length weights.now.wholes }
@@ -208,7 +221,14 @@ impl Weights {
 
     /// Takes the weights before a letter, whose code is `p`: under them the cells before its rotation have the sums of those behind
     /// it, divided by √2 so often, or twice these sums where it is divided at all.
-    pub fn take_before(&mut self, weights: &Weights, commuting: &[bool], negative: &[bool], p: usize, divisions: u8)
+    pub fn take_before(
+        &mut self,
+        weights: &Weights,
+        commuting: &[bool],
+        negative: &[bool],
+        p: usize,
+        divisions: u8,
+    )
         requires long { length self.old.wholes ≡ length weights.now.wholes }
         requires commuting { length commuting.now ≡ length weights.now.wholes }
         requires negative { length negative.now ≡ length weights.now.wholes }
@@ -220,7 +240,14 @@ impl Weights {
             → AreWeights (length weights.now.wholes) w weights.now.wholes weights.now.parts
             → AreWeights (length weights.now.wholes) (before_letter n p divisions w) self.new.wholes self.new.parts }
     {
-        fill_rotated(weights, commuting, negative, p, &mut self.wholes, &mut self.parts);
+        fill_rotated(
+            weights,
+            commuting,
+            negative,
+            p,
+            &mut self.wholes,
+            &mut self.parts,
+        );
         if divisions == 1 {
             multiply_by_root2(&mut self.wholes, &mut self.parts);
         }

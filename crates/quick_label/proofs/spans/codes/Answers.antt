@@ -1,4 +1,3 @@
-use Rattle.std.proofs.Common.{◌∙◌, arith}
 use Rattle.coset_label.proofs.ListedColumns.{columns_are, columns_some, columns_few}
 use Rattle.quick_label.proofs.spans.codes.Goals as goal
 

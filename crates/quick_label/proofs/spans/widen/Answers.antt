@@ -1,4 +1,4 @@
-use Rattle.std.proofs.Common.{◌≡◌, ◌≢◌, ◌<◌, ◌⊎◌, ◌↔◌, ◌||◌, Bool, true, false, inl, inr, IsTrue, refl, sym, length, arith, get_or-set_other, get_or-set_same, below_more}
+use Rattle.std.proofs.Common.{◌≢◌, ◌<◌, ◌⊎◌, ◌↔◌, ◌||◌, Bool, true, false, inl, inr, IsTrue, refl, sym, length, arith, get_or-set_other, get_or-set_same, below_more}
 use Rattle.std.proofs.lemmas.Bool.{true≢false}
 use Rattle.pauli_basis.specs.Products.{product_code}
 use Rattle.quick_label.proofs.spans.widen.Goals as goal
@@ -17,8 +17,8 @@ pub returns : goal.returns
 returns c n word are = record {
   long = omega (arith, are.long);
   tells = λ v l.
-    let is = c.loop-v.invariant v (omega (arith, are.long)) in
-    let here = are.tells v l in
-    let there = are.tells (product_code c.args.p v) (omega (arith, are.long, c.requires.closed v (omega (arith, are.long)))) in
-    (λ e. elim (is.0 e) [ inl h ↦ inl (here.0 h) | inr h ↦ inr (there.0 h) ], λ e. elim e [ inl h ↦ is.1 (inl (here.1 h)) | inr h ↦ is.1 (inr (there.1 h)) ]);
+      let is = c.loop-v.invariant v (omega (arith, are.long)) in
+      let here = are.tells v l in
+      let there = are.tells (product_code c.args.p v) (omega (arith, are.long, c.requires.closed v (omega (arith, are.long)))) in
+      (λ e. elim (is.0 e) [ inl h ↦ inl (here.0 h) | inr h ↦ inr (there.0 h) ], λ e. elim e [ inl h ↦ is.1 (inl (here.1 h)) | inr h ↦ is.1 (inr (there.1 h)) ]);
 }

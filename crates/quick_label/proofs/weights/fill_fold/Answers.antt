@@ -25,5 +25,5 @@ pub returns : goal.returns
 returns c =
     let size : length c.loop-row.wholes ≡ length c.args.wholes.now = c.loop-row.auto.wholes in
     let at = λ (row : ℕ) (l : row < length c.args.wholes.now).
-      subst (λ (n : ℕ). IsWeight (weight n row) (slice_index c.loop-row.wholes row) (slice_index c.loop-row.parts row)) size (c.loop-row.invariant.done row (omega arith) (omega arith)) in
+    subst (λ (n : ℕ). IsWeight (weight n row) (slice_index c.loop-row.wholes row) (slice_index c.loop-row.parts row)) size (c.loop-row.invariant.done row (omega arith) (omega arith)) in
     record { wholes = λ row l. (at row l).b; parts = λ row l. (at row l).a }

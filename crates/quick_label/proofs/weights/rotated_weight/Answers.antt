@@ -1,4 +1,4 @@
-use Rattle.std.proofs.Common.{◌≡◌, ℕ, Bool, ◌^◌, ◌<◌, ap, sym, ◌∙◌, subst, arith, length, slice_index}
+use Rattle.std.proofs.Common.{◌≡◌, ℕ, Bool, ◌^◌, ap, sym, ◌∙◌, subst, arith, length, slice_index}
 use Rattle.std.specs.Prelude.{ℤ, ◌+ℤ◌}
 use Rattle.pauli_basis.specs.Products.{product_code, anti_sign}
 use Rattle.tc_ring.specs.Surds.{Surd}

@@ -1,4 +1,4 @@
-use Rattle.std.proofs.Common.{◌%◌, ◌+◌, ◌-◌, ◌^◌, Bool, true, false, sym, subst}
+use Rattle.std.proofs.Common.{◌%◌, ◌+◌, ◌-◌, ◌^◌, Bool, sym, subst}
 use Rattle.std.specs.Prelude.{◌+ℤ◌}
 use Rattle.label_laws.specs.Congruence.{IsCongruent}
 use Rattle.label_laws.specs.Totals.{turned_whole}

@@ -1,4 +1,4 @@
-use Rattle.std.proofs.Common.{◌≡◌, ℕ, ◌*◌, ◌^◌, ◌<◌, ◌∙◌, ap, arith}
+use Rattle.std.proofs.Common.{◌≡◌, ℕ, ◌*◌, ◌^◌, ◌∙◌, ap, arith}
 use Rattle.pauli_basis.specs.Products.{commute}
 use Rattle.quick_label.specs.Letters.{HeldTurns}
 use Rattle.quick_label.proofs.LetterRows.{rows_end, rows_few, rows_long, row_at}

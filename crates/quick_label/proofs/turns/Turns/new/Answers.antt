@@ -1,4 +1,4 @@
-use Rattle.std.proofs.Common.{◌≡◌, ℕ, ◌+◌, ◌*◌, ◌^◌, ◌<◌, ap, ◌∙◌, arith}
+use Rattle.std.proofs.Common.{◌≡◌, ℕ, ◌+◌, ◌*◌, ◌^◌, ap, ◌∙◌, arith}
 use Rattle.pauli_basis.specs.Products.{commute, anti_sign}
 use Rattle.quick_label.proofs.LetterRows.{at_place, place_below}
 use Rattle.quick_label.proofs.turns.Turns.new.Goals as goal
@@ -13,10 +13,10 @@ invariant_of-result c =
       negative_long = omega arith;
       turns = record {
         commutes = λ p row l l'.
-          c.loop-place.invariant.commutes (p * 4 ^ c.args.n + row) (place_below c.args.n c.codes-size.result p row c.loop-place.place size l l' c.loop-place-test.false)
-          ∙ at_place (commute c.args.n) c.args.n c.codes-size.result p row size l';
+            c.loop-place.invariant.commutes (p * 4 ^ c.args.n + row) (place_below c.args.n c.codes-size.result p row c.loop-place.place size l l' c.loop-place-test.false)
+            ∙ at_place (commute c.args.n) c.args.n c.codes-size.result p row size l';
         signs = λ p row l l'.
-          c.loop-place.invariant.signs (p * 4 ^ c.args.n + row) (place_below c.args.n c.codes-size.result p row c.loop-place.place size l l' c.loop-place-test.false)
-          ∙ at_place (anti_sign c.args.n) c.args.n c.codes-size.result p row size l';
+            c.loop-place.invariant.signs (p * 4 ^ c.args.n + row) (place_below c.args.n c.codes-size.result p row c.loop-place.place size l l' c.loop-place-test.false)
+            ∙ at_place (anti_sign c.args.n) c.args.n c.codes-size.result p row size l';
       };
     }
