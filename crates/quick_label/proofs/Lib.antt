@@ -21,3 +21,4 @@ pub mod QuickMarks
 pub mod WeightRows
 pub mod CountedPlaces
 pub mod Closed
+pub mod SuffixWords
