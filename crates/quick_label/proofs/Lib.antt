@@ -22,3 +22,4 @@ pub mod WeightRows
 pub mod CountedPlaces
 pub mod Closed
 pub mod SuffixWords
+pub mod SuffixStarts

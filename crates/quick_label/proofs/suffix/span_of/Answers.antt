@@ -1,4 +1,4 @@
-use Rattle.std.proofs.Common.{◌≡◌, ℕ, ◌-◌, ◌^◌, ◌<◌, Bool, List, ◌∷◌, ◌∙◌, drop, length, ap, sym, subst, arith}
+use Rattle.std.proofs.Common.{ℕ, ◌-◌, ◌^◌, ◌<◌, Bool, List, ◌∷◌, ◌∙◌, drop, ap, sym, subst, arith}
 use Rattle.quick_label.specs.Spans.{AreSpan}
 use Rattle.quick_label.proofs.Closed.{closed_by}
 use Rattle.quick_label.proofs.SuffixWords.{letter_more}

@@ -1,5 +1,4 @@
 use Rattle.std.proofs.Common.{◌≡◌, ◌^◌, ◌≤◌, length, drop}
-use Rattle.coset_label.specs.Words.{IsShortWord}
 use Rattle.quick_label.specs.Spans.{AreSpan}
 use Rattle.quick_label.proofs.suffix.span_of.Given as goal
 
