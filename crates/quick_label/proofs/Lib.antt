@@ -19,5 +19,7 @@ pub mod WholeNumbers
 pub mod LetterRows
 pub mod QuickMarks
 pub mod WeightRows
-pub mod BlockHomes
-pub mod BlockRows
+pub mod CountedPlaces
+pub mod Closed
+pub mod SuffixWords
+pub mod SuffixStarts

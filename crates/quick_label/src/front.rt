@@ -5,6 +5,7 @@ ghost use Rattle.quick_label.specs.Blocks.{block_rows};
 ghost use Rattle.quick_label.specs.FrontRooms.{IsFrontRoom, AreHalves, AreLedBy};
 ghost use Rattle.quick_label.specs.Rooms.{AreBlocks};
 
+use crate::spans::codes;
 use crate::{Blocks, Weights, lead_of, number_of};
 use std::alloc::{AllocError, Global};
 
@@ -33,7 +34,7 @@ impl Front {
         requires { n ≤ 3 }
         ensures { IfOk result (IsFrontRoom n) }
     {
-        let size = 1usize << (2 * n);
+        let size = codes(n);
         Ok(Front {
             span: vec![in alloc; false; size]?,
             blocks: Blocks::new(alloc, n)?,

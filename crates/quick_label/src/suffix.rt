@@ -14,6 +14,7 @@ ghost use Rattle.quick_label.specs.Weights.{before_letter, IsLetterOf};
 
 use crate::front::{Front, find_leads, number_columns};
 use crate::places::{find_places, place_powers, placed_sum, tag_of_sum, top_power};
+use crate::spans::codes;
 use crate::{Columns, Parities, Turns, Weights, empty_span, weigh_columns, widen};
 use channel_rep::Channel;
 use coset_label::{Scratch, Word, channel_of_word, label_of_front};
@@ -191,7 +192,7 @@ impl Suffix {
         columns.take(&channel);
         let mut parities = Parities::new(alloc, n)?;
         parities.take(&channel);
-        let mut span = vec![in alloc; false; 1usize << (2 * n)]?;
+        let mut span = vec![in alloc; false; codes(n)]?;
         empty_span(&mut span);
         Ok(Suffix {
             word: Word::empty(n),

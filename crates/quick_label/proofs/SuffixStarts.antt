@@ -1,0 +1,48 @@
+-- What a suffix keeps of the empty word.
+use Rattle.std.proofs.Common.{◌≡◌, ℕ, ◌^◌, ◌<◌, ◌≤◌, inl, List, [], ap, sym, subst, arith}
+use Rattle.channel_rep.specs.Cells.{ChannelGrid, table_of, scaled}
+use Rattle.channel_rep.specs.Tables.{IsBuiltOf}
+use Rattle.coset_label.specs.Words.{RotationWord}
+use Rattle.quick_label.specs.Columns.{HoldsColumns}
+use Rattle.quick_label.specs.ParityWords.{HoldsParities}
+use Rattle.quick_label.specs.Spans.{AreSpan}
+use Rattle.quick_label.specs.Suffixes.{SuffixParts, HasConstants, IsSuffix}
+
+-- the identity's channel, its columns and parities, and the span of no letters
+pub record AreEmptyWordParts (n : ℕ) (s : SuffixParts) : Type 0 where
+  pub word : s.word ≡ record { qubits = n; letters = [] }
+  pub qubits : s.channel.qubits ≡ n
+  pub exponent : s.channel.exponent ≡ 0
+  pub built : IsBuiltOf n [] (scaled s.channel)
+  pub columns : HoldsColumns (4 ^ s.channel.qubits) (table_of s.channel) s.columns
+  pub parities : HoldsParities s.channel.qubits (table_of s.channel) s.parities
+  pub span : AreSpan n [] s.span
+  pub constants : HasConstants n s
+
+module _ (n : ℕ) (some : 0 < n) (few : n ≤ 3) (s : SuffixParts) (are : AreEmptyWordParts n s) where
+  columns : HoldsColumns (4 ^ n) (table_of s.channel) s.columns
+  columns = subst (λ (k : ℕ). HoldsColumns (4 ^ k) (table_of s.channel) s.columns) are.qubits are.columns
+
+  of_no_letters : IsSuffix (record s { word = record { qubits = n; letters = [] } })
+  of_no_letters = record {
+    word = record { some = some; few = few; word = grind arith; short = omega arith };
+    qubits = are.qubits;
+    reduced = inl are.exponent;
+    built = are.built;
+    exponent = omega (arith, are.exponent);
+    size = columns.as_many;
+    columns = columns;
+    parities = subst (λ (k : ℕ). HoldsParities k (table_of s.channel) s.parities) are.qubits are.parities;
+    span = are.span;
+    constants = record {
+      turns = are.constants.turns;
+      long = are.constants.long;
+      fold = are.constants.fold;
+      powers = are.constants.powers;
+      top = are.constants.top;
+      front = are.constants.front;
+    };
+  }
+
+  pub suffix_starts : IsSuffix s
+  suffix_starts = subst (λ (w : RotationWord). IsSuffix (record s { word = w })) (sym are.word) of_no_letters
