@@ -23,3 +23,6 @@ pub mod CountedPlaces
 pub mod Closed
 pub mod SuffixWords
 pub mod SuffixStarts
+pub mod BlockHomes
+pub mod BlockRows
+pub mod SuffixFacts
