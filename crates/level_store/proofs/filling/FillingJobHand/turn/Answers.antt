@@ -1,4 +1,4 @@
-use Rattle.std.proofs.Common.{◌≡◌, ◌∙◌, ap, ◌++◌, ◌∷◌, [], sym, subst, length}
+use Rattle.std.proofs.Common.{◌∙◌, ap, ◌++◌, ◌∷◌, [], sym, subst, length}
 use Rattle.coset_label.specs.Words.{RotationWord}
 use Rattle.level_store.specs.Hands.{IsSuffix}
 use Rattle.level_store.proofs.Tops.{turn_long, offers_new}
