@@ -7,8 +7,8 @@
 //!
 //! A bucket is one word of 64 bits, a tag and below it the letters of a word. An offer looks at bucket after bucket, from its
 //! word's home up and round, until it meets an empty bucket, into which it puts its word by one exchange, or a word of its own
-//! coset, which it lowers by one `fetch_min`. Words of one coset have one tag, so labels are compared where tags are equal
-//! alone.
+//! coset, which it lowers by one `fetch_min`. Words of one coset have one tag, so words are compared where tags are equal
+//! alone, and no label of a stored word is made.
 #![tactic(auto)]
 
 mod close;

@@ -1,21 +1,9 @@
 -- Marks of words.
-use Rattle.std.proofs.Common.{◌≡◌, ℕ, ◌+◌, ◌/◌, ◌^◌, ◌<◌, ◌≤◌, List, fold, ap, sym, ◌∙◌, subst, arith}
-use Rattle.std.proofs.Math.Nat.{mod-lt}
-use Rattle.channel_rep.specs.Words.{IsWord}
-use Rattle.coset_label.specs.Cosets.{SameCosetWords}
+use Rattle.std.proofs.Common.{ap, sym, ◌∙◌}
 use Rattle.coset_label.specs.Labels.{Label}
-use Rattle.coset_label.specs.Tags.{tag_of, fold_number, label_numbers}
+use Rattle.coset_label.specs.Tags.{tag_of}
 use Rattle.coset_label.proofs.WordChannels.{one_label_of_words}
-use Rattle.coset_words.specs.declared.mark.Mark.{Mark}
-use Rattle.coset_words.specs.Marks.{IsMarkOf, CosetsHaveOneMark}
-
--- a tag has 38 bits
-tag_low : (label : Label) → tag_of label < 2 ^ 38
-tag_low label = let f = fold fold_number 0 (label_numbers label) in mod-lt (f + f / 2 ^ 19) (omega arith)
-
--- and so has that of a mark
-pub mark_low : (n : ℕ) (letters : List ℕ) (mark : Mark) → IsMarkOf n letters mark → mark.tag < 2 ^ 38
-mark_low n letters mark is = subst (λ t. t < 2 ^ 38) (sym is.tag) (tag_low is.label)
+use Rattle.coset_words.specs.Marks.{CosetsHaveOneMark}
 
 -- words of one coset have one mark
 pub one_mark : CosetsHaveOneMark

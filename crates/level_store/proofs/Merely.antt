@@ -27,7 +27,7 @@ use Rattle.level_store.specs.declared.level.Level.{Level}
 use Rattle.level_store.specs.Contents.{letters_of_all, HoldsAll, AreBucketsOf, IsStored}
 use Rattle.level_store.specs.Filling.{shape_with}
 use Rattle.level_store.specs.InOrder.{qubits_of, len_of, IsLevelOf}
-use Rattle.level_store.specs.Stored.{words_of, buckets_of}
+use Rattle.level_store.specs.Stored.{words_of, letters_in, buckets_of}
 use Rattle.level_store.proofs.Looks.{buckets_at}
 
 -- a fact that a truth value tells
@@ -118,3 +118,11 @@ stored_of l = keeping (qubits_of l) (len_of l) (words_of l) (buckets_of l) l.sto
 -- the same, by its number
 pub stored_at : (n k : ℕ) (l : Level) → IsLevelOf n k l → IsStored n k (words_of l) (buckets_of l)
 stored_at n k l is = subst (λ (z : ℕ × ℕ). IsStored z.0 z.1 (words_of l) (buckets_of l)) (λ i. (is.qubits i, is.len i)) (stored_of l)
+
+-- what is known of a level's buckets, by the qubits of a word beside it
+module _ (l : Level) (q : ℕ) (qubits : q ≡ qubits_of l) where
+  pub level_beside : IsStored q (len_of l) (words_of l) (buckets_of l)
+  level_beside = stored_at q (len_of l) l (record { qubits = sym qubits; len = refl })
+
+  pub buckets_beside : (b : Buckets) → buckets_of l ≡ Some b → (words : List ℕ) → words ≡ words_in b → IsShape (shape_with q (len_of l) words) × HoldsAll (shape_with q (len_of l) words) words (letters_in l)
+  buckets_beside b is words e = buckets_at q (len_of l) (letters_in l) b words (level_beside.buckets b is) e

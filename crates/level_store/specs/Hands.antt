@@ -14,8 +14,8 @@ pub record IsSuffix (n : ℕ) (s : Suffix) : Type 0 where
   pub built : IsBuiltOf n (word_steps s.word.letters) (scaled s.channel)
   pub exponent : s.channel.exponent ≡ length s.word.letters
 
--- room for labels on n qubits, and such a word
+-- room for a label and a channel on n qubits, and such a word
 pub record IsHand (n : ℕ) (h : Hand) : Type 0 where
   pub label : h.label.qubits ≡ n
-  pub other : h.other.qubits ≡ n
+  pub room : h.room.qubits ≡ n
   pub suffix : IsSuffix n h.suffix

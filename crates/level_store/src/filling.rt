@@ -2,6 +2,7 @@
 ghost use Rattle.std.specs.Prelude.{◌≡◌, ◌≢◌, ◌+◌, ◌^◌, ◌<◌, ◌≤◌, ◌∷◌, IfOk, length};
 ghost use Rattle.coset_label.specs.Words.{most_letters};
 ghost use Rattle.coset_table.specs.Ends.{counts_in};
+ghost use Rattle.coset_words.specs.Marks.{IsMarkOf};
 ghost use Rattle.level_laws.specs.Levels.{candidate_at};
 ghost use Rattle.level_store.specs.Filling.{position_count, height_of, last_letters, IsFilled, OffersAdd, TellsNew};
 ghost use Rattle.level_store.specs.InOrder.{IsLevelOf};
@@ -10,8 +11,10 @@ ghost use Rattle.level_store.specs.Stored.{qubits_of_all, levels_of, letters_in,
 use crate::hand::{Hand, hands_of, seats_of};
 use crate::level::Level;
 use crate::levels::Levels;
-use coset_label::{Scratch, Word};
+use channel_rep::Channel;
+use coset_label::Word;
 use coset_table::{Buckets, OpenTable, start_table};
+use coset_words::Mark;
 use pauli_basis::Pauli;
 use std::alloc::{AllocError, Global};
 use std::thread::Threads;
@@ -45,11 +48,11 @@ impl<'a> Job<Hand> for Filling<'a> {
     fn turn(&self, local: &mut Hand, position: u64) {
         let (letter, word) = self.levels.parts_at(position);
         local.suffix.turn_to(word);
-        local.suffix.label_with(letter, &mut local.label);
-        if self.levels.is_new(&local.label, &mut local.other) {
-            let candidate = word.push_front(letter);
+        let mark = local.suffix.mark_with(letter, &mut local.label);
+        let candidate = word.push_front(letter);
+        if self.levels.is_new(candidate, mark, &mut local.room) {
             self.table
-                .offer(&mut local.seat, candidate, &local.label, &mut local.other);
+                .offer(&mut local.seat, candidate, mark, &mut local.room);
         }
     }
 }
@@ -96,18 +99,19 @@ impl Levels {
         (letter, self.last().word(position / letters))
     }
 
-    /// Whether the coset with a label stands neither in the last level nor in the one below.
-    fn is_new(&self, label: &Scratch, other: &mut Scratch) -> bool
-        requires label { label.now.qubits ≡ qubits_of_all self.now }
-        requires other { other.old.qubits ≡ qubits_of_all self.now }
-        ensures other { other.new.qubits ≡ other.old.qubits }
-        ensures new { TellsNew self.now label.now.label result }
+    /// Whether the coset of a word stands neither in the last level nor in the one below.
+    fn is_new(&self, word: Word, mark: Mark, room: &mut Channel) -> bool
+        requires qubits { word.qubits ≡ qubits_of_all self.now }
+        requires mark { IsMarkOf word.qubits word.letters mark }
+        requires room { room.old.qubits ≡ word.qubits }
+        ensures room { room.new.qubits ≡ room.old.qubits }
+        ensures new { TellsNew self.now word.letters result }
     {
-        if self.last().find(label, other).is_some() {
+        if self.last().find_word(word, mark, room).is_some() {
             return false;
         }
         let top = self.height();
-        top == 0 || self.level(top - 1).find(label, other).is_none()
+        top == 0 || self.level(top - 1).find_word(word, mark, room).is_none()
     }
 
     /// The buckets of a table that workers filled with the candidates of the last level. While they fill it, nothing is taken

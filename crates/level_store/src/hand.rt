@@ -1,16 +1,17 @@
 // What a worker fills a table with.
 ghost use Rattle.std.specs.Prelude.{◌≡◌, ◌≢◌, ◌<◌, ◌≤◌, ◌∷◌, All, IfOk, map};
-ghost use Rattle.coset_label.specs.Labels.{IsLabelOfWord};
 ghost use Rattle.coset_label.specs.Words.{IsShortWord};
+ghost use Rattle.coset_words.specs.Marks.{IsMarkOf};
 ghost use Rattle.level_store.specs.Hands.{IsSuffix, IsHand};
 
 use channel_rep::Channel;
 use coset_label::{Scratch, Word, channel_of_word, label_of_front};
 use coset_table::TableSeat;
+use coset_words::{Mark, mark_of};
 use pauli_basis::Pauli;
 use std::alloc::{AllocError, Global};
 
-/// A word with the channel of its product, from which the labels of words with one more letter before it are made.
+/// A word with the channel of its product, from which the marks of words with one more letter before it are made.
 #[derive(Drop)]
 pub struct Suffix {
     pub(crate) word: Word,
@@ -43,25 +44,27 @@ impl Suffix {
         }
     }
 
-    /// Makes `label` the label of the word with one more letter before its first.
-    pub fn label_with(&self, letter: Pauli, label: &mut Scratch)
+    /// The mark of the word with one more letter before its first. What `label` holds afterwards is left open: it is room
+    /// for the word's label.
+    pub fn mark_with(&self, letter: Pauli, label: &mut Scratch) -> Mark
         requires suffix { IsSuffix letter.qubits self.now }
         requires other { letter.code ≢ 0 }
         requires label { label.old.qubits ≡ letter.qubits }
-        ensures qubits { label.new.qubits ≡ label.old.qubits }
-        ensures label { IsLabelOfWord letter.qubits (letter.code ∷ self.now.word.letters) label.new.label }
+        ensures label { label.new.qubits ≡ label.old.qubits }
+        ensures mark { IsMarkOf letter.qubits (letter.code ∷ self.now.word.letters) result }
     {
         label_of_front(&self.channel, letter, label);
+        mark_of(label)
     }
 }
 
-/// What a worker fills with: a seat at the table, and all the room that it needs: for the label of a candidate, for that of
-/// a word which it meets, and for the channel of the word whose candidates it makes.
+/// What a worker fills with: a seat at the table, and all the room that it needs: for the label of a candidate, for the
+/// channel of a word which it meets, and for that of the word whose candidates it makes.
 #[derive(Drop)]
 pub struct Hand {
     pub(crate) seat: TableSeat,
     pub(crate) label: Scratch,
-    pub(crate) other: Scratch,
+    pub(crate) room: Channel,
     pub(crate) suffix: Suffix,
 }
 
@@ -76,7 +79,7 @@ impl Hand {
         Ok(Hand {
             seat,
             label: Scratch::new(alloc, n)?,
-            other: Scratch::new(alloc, n)?,
+            room: Channel::identity(alloc, n)?,
             suffix: Suffix::empty(alloc, n)?,
         })
     }

@@ -5,7 +5,7 @@ use Rattle.coset_table.proofs.tests.offer_each.Given as goal
 abbrev pub invariant-loop-place : goal.invariant-loop-place
 invariant-loop-place l = record {
   label : l.label.qubits ≡ 2;
-  other : l.other.qubits ≡ 2;
+  room : l.room.qubits ≡ 2;
   seat : IsSeatOf l.table l.seat;
   numbers : numbers_of l.seat ≡ numbers_of l.fn.seat;
 }

@@ -1,4 +1,4 @@
-use Rattle.std.proofs.Common.{◌≡◌, ◌≤◌, ◌+◌, ◌∷◌, [], true≢false, length, drop, ap, sym, ◌∙◌, subst, arith, length-drop}
+use Rattle.std.proofs.Common.{◌≡◌, ◌≤◌, ◌+◌, true≢false, length, drop, ap, sym, ◌∙◌, subst, arith, length-drop}
 use Rattle.std.proofs.Math.Seq.{drop-length}
 use Rattle.channel_rep.specs.Cells.{scaled}
 use Rattle.coset_label.specs.Cosets.{SameCoset}

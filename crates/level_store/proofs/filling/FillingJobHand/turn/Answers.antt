@@ -1,5 +1,4 @@
-use Rattle.std.proofs.Common.{◌≡◌, ◌∙◌, ap, ◌++◌, ◌∷◌, [], sym, subst, length}
-use Rattle.coset_label.specs.Labels.{IsLabelOfWord}
+use Rattle.std.proofs.Common.{◌∙◌, ap, ◌++◌, ◌∷◌, [], sym, subst, length}
 use Rattle.coset_label.specs.Words.{RotationWord}
 use Rattle.level_store.specs.Hands.{IsSuffix}
 use Rattle.level_store.proofs.Tops.{turn_long, offers_new}
@@ -16,14 +15,12 @@ returns-then-is_new-clause-stands c = λ done stood.
     let s = c.args.self.now.levels.now in
     let own = c.requires.own in
     let parts = c.parts_at-letter in
-    let letters = parts.result.0.code ∷ parts.result.1.letters in
-    let put : c.push_front-candidate.result ≡ record { qubits = parts.result.1.qubits; letters = letters } = c.push_front-candidate.ensures in
-    let label : IsLabelOfWord parts.result.0.qubits letters c.label_with.new.label.label =
-    subst (λ (w : RotationWord). IsLabelOfWord parts.result.0.qubits (parts.result.0.code ∷ w.letters) c.label_with.new.label.label) c.turn_to.ensures.word c.label_with.ensures.label in (
-      record { label = c.label_with.ensures.qubits ∙ stood.0.label; other = c.offer.ensures.other ∙ (c.is_new.ensures.other ∙ stood.0.other); suffix = subst (λ q. IsSuffix q c.turn_to.new.self) parts.ensures.word.qubits c.turn_to.ensures.suffix },
+    let candidate = c.push_front-candidate.result.letters in
+    let letters = ap (λ (w : RotationWord). w.letters) c.push_front-candidate.ensures ∙ parts.ensures.is in (
+      record { label = c.mark_with-mark.ensures.label ∙ stood.0.label; room = c.offer.ensures.room ∙ (c.is_new.ensures.room ∙ stood.0.room); suffix = subst (λ q. IsSuffix q c.turn_to.new.self) parts.ensures.word.qubits c.turn_to.ensures.suffix },
       record {
         of = c.offer.ensures.seat;
-        offered = λ test tells. c.offer.ensures.offers ∙ (λ k. stood.1.offered test tells k ++ (put k).letters ∷ [])
-            ∙ sym (offers_new s c.args.position own.0 parts.result.0.qubits letters c.label_with.new.label.label parts.ensures.letter parts.ensures.is label c.is_new.result c.is_new.ensures.new test tells c.if-is_new.true done);
+        offered = λ test tells. c.offer.ensures.offers ∙ (λ k. stood.1.offered test tells k ++ candidate ∷ [])
+            ∙ sym (offers_new s c.args.position own.0 candidate letters c.is_new.result c.is_new.ensures.new test tells c.if-is_new.true done);
       },
     )
