@@ -1,6 +1,5 @@
 use Rattle.std.proofs.Common.{◌∙◌, ap, ◌++◌, ◌∷◌, [], sym, subst, length}
 use Rattle.coset_label.specs.Words.{RotationWord}
-use Rattle.level_store.specs.Hands.{IsSuffix}
 use Rattle.level_store.proofs.Tops.{turn_long, offers_new}
 use Rattle.level_store.proofs.filling.FillingJobHand.turn.Goals as goal
 
@@ -17,7 +16,7 @@ returns-then-is_new-clause-stands c = λ done stood.
     let parts = c.parts_at-letter in
     let candidate = c.push_front-candidate.result.letters in
     let letters = ap (λ (w : RotationWord). w.letters) c.push_front-candidate.ensures ∙ parts.ensures.is in (
-      record { label = c.mark_with-mark.ensures.label ∙ stood.0.label; room = c.offer.ensures.room ∙ (c.is_new.ensures.room ∙ stood.0.room); suffix = subst (λ q. IsSuffix q c.turn_to.new.self) parts.ensures.word.qubits c.turn_to.ensures.suffix },
+      record { label = c.mark_with-mark.ensures.room ∙ stood.0.label; room = c.offer.ensures.room ∙ (c.is_new.ensures.room ∙ stood.0.room); suffix = ap (λ (w : RotationWord). w.qubits) (c.mark_with-mark.ensures.word ∙ c.turn_to.ensures) ∙ parts.ensures.word.qubits },
       record {
         of = c.offer.ensures.seat;
         offered = λ test tells. c.offer.ensures.offers ∙ (λ k. stood.1.offered test tells k ++ candidate ∷ [])
