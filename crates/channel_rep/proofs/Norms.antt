@@ -1,4 +1,4 @@
--- Tables with orthogonal columns: products and moved rows have them too, so each circuit's channel has. Their norm bounds
+-- Lemmas for the crates above: tables with orthogonal columns: products and moved rows have them too, so each circuit's channel has. Their norm bounds
 -- each entry.
 use Rattle.std.proofs.Common.{◌≡◌, ◌≢◌, ℕ, zero, suc, ◌+◌, ◌*◌, ◌^◌, ◌<◌, ◌≤◌, Bool, true, false, not, List, [], ◌∷◌, refl, ap, sym, ◌∙◌, subst, inl, inr, arith, lit<}
 use Rattle.std.specs.Prelude.{pos, ◌+ℤ◌, ◌*ℤ◌, nat_abs}
