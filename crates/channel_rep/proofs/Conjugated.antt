@@ -3,7 +3,7 @@ use Rattle.std.proofs.Common.{◌≡◌, ℕ, ◌/◌, ◌%◌, ◌^◌, ◌<◌
 use Rattle.std.specs.Prelude.{slice_index}
 use Rattle.std.specs.List.{AllByRecursion}
 use Rattle.pauli_basis.specs.Products.{Signed}
-use Rattle.channel_rep.specs.Gates.{Fits, image, positive}
+use Rattle.channel_rep.specs.Gates.{GateFits, image, positive}
 use Rattle.channel_rep.specs.Tables.{turned_over}
 use Rattle.channel_rep.specs.Conjugations.{conjugated, conjugated_by, pauli_in, PauliMap, image_of, IsPauliMap, IsConjugationBy}
 use Rattle.channel_rep.specs.declared.gate.ChannelGate.{ChannelGate}
@@ -16,7 +16,7 @@ same_parts : (a b : Signed) → a.code ≡ b.code → a.is_negative ≡ b.is_neg
 same_parts a b e d = λ i. record { code = e i; is_negative = d i }
 
 -- more qubits change no image
-pub image-three : (n : ℕ) → n ≤ 3 → (g : ChannelGate) → Fits n g → (code : ℕ) → code < 4 ^ n → image 3 g code ≡ image n g code
+pub image-three : (n : ℕ) → n ≤ 3 → (g : ChannelGate) → GateFits n g → (code : ℕ) → code < 4 ^ n → image 3 g code ≡ image n g code
 unfolding image
 image-three n few (H q) fits code l = refl
 image-three n few (S q) fits code l = refl
@@ -33,7 +33,7 @@ conjugated_by-append n [] d s = refl
 conjugated_by-append n (g ∷ c) d s = conjugated_by-append n c d (conjugated n g s)
 
 -- gates that fit, and one more
-fits-push : (n : ℕ) (c : List ChannelGate) (g : ChannelGate) → AllByRecursion (Fits n) c → Fits n g → AllByRecursion (Fits n) (c ++ (g ∷ []))
+fits-push : (n : ℕ) (c : List ChannelGate) (g : ChannelGate) → AllByRecursion (GateFits n) c → GateFits n g → AllByRecursion (GateFits n) (c ++ (g ∷ []))
 fits-push n [] g fits fit = (fit, tt)
 fits-push n (h ∷ c) g fits fit = (fits.0, fits-push n c g fits.1 fit)
 
@@ -67,7 +67,7 @@ module _ (n : ℕ) (some : 0 < n) (few : n ≤ 3) (bytes : List ℕ) (own : (p :
   pub identity_by : IsConjugationBy [] (map_of n bytes)
   identity_by = record { fit = tt; images = identity_images }
 
-module _ (n : ℕ) (g : ChannelGate) (fits : Fits n g) (old new : List ℕ) (valid : IsPauliMap (map_of n old))
+module _ (n : ℕ) (g : ChannelGate) (fits : GateFits n g) (old new : List ℕ) (valid : IsPauliMap (map_of n old))
     (behind : (p : ℕ) → p < 64 → pauli_in (slice_index new p) ≡ conjugated 3 g (pauli_in (slice_index old p))) where
   -- the gate's images of the images
   pub behind_images : (p : ℕ) → p < 4 ^ n → image_of (map_of n new) p ≡ conjugated n g (image_of (map_of n old) p)

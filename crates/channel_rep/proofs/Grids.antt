@@ -7,7 +7,7 @@ use Rattle.channel_rep.proofs.Squares.{place-lt, row_below, column_below, place_
 use Rattle.ring_laws.specs.Matrix.{identity, product, Agree}
 use Rattle.tc_ring.specs.Surds.{surds, SurdWithin, IsOdd, surd_times}
 use Rattle.tc_ring.specs.declared.root2.Root2.{Root2}
-use Rattle.channel_rep.specs.Gates.{Fits}
+use Rattle.channel_rep.specs.Gates.{GateFits}
 use Rattle.channel_rep.specs.Tables.{SurdTable, Step, by_gate, by_rotation, by_inverse_rotation, IsStep, step_table, step_exponent, gate_table, rotation_table, SameTable, IsBuiltOf}
 use Rattle.channel_rep.specs.Rows.{rotated, moved}
 use Rattle.channel_rep.specs.Cells.{HasOneUnit, IsSignedPermutation, ChannelGrid, IsChannelGrid, most_exponent, HasOddCell, IsReduced, EntriesWithin, cell_of, entries, table_of, scaled}
@@ -60,7 +60,7 @@ stepped_orthogonal n k j some few s fits old new e h table =
     (agree_orthogonal (4 ^ n) (step_exponent s + k) (product surds (4 ^ n) (step_table n s) old) new table (product_orthogonal (4 ^ n) (step_exponent s) k (step_table n s) old (step_columns n some few s fits) h))
 
 -- from the row rule of a gate, over cells that were lent
-pub gate_done : (n k len : ℕ) (old lent new : List Root2) (g : ChannelGate) → Fits n g → IsChannelGrid (grid n k old) → lent ≡ old → length lent ≡ len → length new ≡ 4 ^ n * 4 ^ n
+pub gate_done : (n k len : ℕ) (old lent new : List Root2) (g : ChannelGate) → GateFits n g → IsChannelGrid (grid n k old) → lent ≡ old → length lent ≡ len → length new ≡ 4 ^ n * 4 ^ n
     → ((r c : ℕ) → r < 4 ^ n → c < 4 ^ n → entries (4 ^ n) new r c ≡ moved n g (entries (4 ^ n) lent) r c) → GateDone n k g old (take len (new ++ drop (length new) old))
 gate_done n k len old lent new g fits valid e long whole rows =
     subst (GateDone n k g old) (sym (given_back len _ old lent new e long valid.whole whole)) (record {

@@ -7,7 +7,7 @@ use Rattle.pauli_basis.specs.Letters.{letter_of}
 use Rattle.pauli_basis.specs.Products.{Signed, turns}
 use Rattle.pauli_basis.proofs.Letters.{two_bits, letter_of-lt}
 use Rattle.pauli_basis.proofs.Small.{all, all_at, all_at2, and_left, and_right}
-use Rattle.channel_rep.specs.Gates.{Fits, image, cx_image, with_letter, on_qubit}
+use Rattle.channel_rep.specs.Gates.{GateFits, image, cx_image, with_letter, on_qubit}
 use Rattle.channel_rep.specs.declared.gate.ChannelGate.{ChannelGate}
 use Rattle.channel_rep.specs.declared.gate.ChannelGate.TheVariants.{H, S, Sdg, Cx}
 
@@ -108,7 +108,7 @@ crossed_sign_is n control target code c t few lc lt d l ec et =
     ∙ beq_is _ _ (and_right (eqb (crossed_code control target code (letter_of control code) (letter_of target code)) (cx_image n control target code).code) _ (crossed n control target code few lc lt d l))
 
 -- a gate of n qubits is one of three
-pub fits_three : (n : ℕ) → n ≤ 3 → (g : ChannelGate) → Fits n g → Fits 3 g
+pub fits_three : (n : ℕ) → n ≤ 3 → (g : ChannelGate) → GateFits n g → GateFits 3 g
 fits_three n few (H q) fits = omega (arith, fits)
 fits_three n few (S q) fits = omega (arith, fits)
 fits_three n few (Sdg q) fits = omega (arith, fits)
@@ -120,7 +120,7 @@ all_gates n f =
     all n (λ q. f (H q) && (f (S q) && f (Sdg q))) && all n (λ control. all n (λ target. eqb control target || f (Cx control target)))
 
 -- a test of all gates, at one
-at_gate : (n : ℕ) (f : ChannelGate → Bool) → T (all_gates n f) → (g : ChannelGate) → Fits n g → T (f g)
+at_gate : (n : ℕ) (f : ChannelGate → Bool) → T (all_gates n f) → (g : ChannelGate) → GateFits n g → T (f g)
 at_gate n f h (H q) fits = and_left (f (H q)) _ (all_at n (λ q. f (H q) && (f (S q) && f (Sdg q))) (and_left _ _ h) q fits)
 at_gate n f h (S q) fits = and_left (f (S q)) _ (and_right (f (H q)) _ (all_at n (λ q. f (H q) && (f (S q) && f (Sdg q))) (and_left _ _ h) q fits))
 at_gate n f h (Sdg q) fits = and_right (f (S q)) _ (and_right (f (H q)) _ (all_at n (λ q. f (H q) && (f (S q) && f (Sdg q))) (and_left _ _ h) q fits))
@@ -151,18 +151,18 @@ unfolding image turns
 pairs_3 = tt
 
 -- at one gate and code
-paired : (n : ℕ) → 0 < n → n ≤ 3 → (g : ChannelGate) → Fits n g → (code : ℕ) → code < 4 ^ n → T (pairs n g code)
+paired : (n : ℕ) → 0 < n → n ≤ 3 → (g : ChannelGate) → GateFits n g → (code : ℕ) → code < 4 ^ n → T (pairs n g code)
 paired n some few g fits code l =
     all_at (4 ^ n) (pairs n g) (at_gate n (λ g. all (4 ^ n) (pairs n g)) (sizes (λ n. T (all_pairs n)) pairs_1 pairs_2 pairs_3 n some few) g fits) code l
 
 -- the image is a code of as many qubits
-pub image-lt : (n : ℕ) → 0 < n → n ≤ 3 → (g : ChannelGate) → Fits n g → (code : ℕ) → code < 4 ^ n → (image n g code).code < 4 ^ n
+pub image-lt : (n : ℕ) → 0 < n → n ≤ 3 → (g : ChannelGate) → GateFits n g → (code : ℕ) → code < 4 ^ n → (image n g code).code < 4 ^ n
 image-lt n some few g fits code l = ltb→lt _ _ (and_left _ _ (paired n some few g fits code l))
 
 -- the image's image is the code itself, up to sign
-pub image-image : (n : ℕ) → 0 < n → n ≤ 3 → (g : ChannelGate) → Fits n g → (code : ℕ) → code < 4 ^ n → (image n g (image n g code).code).code ≡ code
+pub image-image : (n : ℕ) → 0 < n → n ≤ 3 → (g : ChannelGate) → GateFits n g → (code : ℕ) → code < 4 ^ n → (image n g (image n g code).code).code ≡ code
 image-image n some few g fits code l = eqb→eq _ _ (and_right (ltb (image n g code).code (4 ^ n)) _ (paired n some few g fits code l))
 
 -- the same of an image that is given by an equation
-pub image_below : (n : ℕ) → 0 < n → n ≤ 3 → (g : ChannelGate) → Fits n g → (code partner : ℕ) → code < 4 ^ n → partner ≡ (image n g code).code → partner < 4 ^ n
+pub image_below : (n : ℕ) → 0 < n → n ≤ 3 → (g : ChannelGate) → GateFits n g → (code partner : ℕ) → code < 4 ^ n → partner ≡ (image n g code).code → partner < 4 ^ n
 image_below n some few g fits code partner l e = subst (λ x. x < 4 ^ n) (sym e) (image-lt n some few g fits code l)

@@ -11,7 +11,7 @@ use Rattle.tc_ring.specs.Surds.{Surd, surds, surd_integer, surd_plus, surd_times
 use Rattle.tc_ring.proofs.Surds.{surds_laws, same_surd, surd_plus-zero, surd_times_assoc, cancel_root2_surd, cancel_root2_power}
 use Rattle.pauli_basis.specs.Products.{product_code, commute, anti_sign}
 use Rattle.pauli_basis.proofs.Products.{product_code-lt, product_code-back, commute-back, anti_sign-back}
-use Rattle.channel_rep.specs.Gates.{image, Fits}
+use Rattle.channel_rep.specs.Gates.{image, GateFits}
 use Rattle.channel_rep.specs.Tables.{SurdTable, ScaledTable, Step, by_gate, by_rotation, by_inverse_rotation, IsStep, step_table, stepped, built_on, built, IsCircuitChannel, signed, turned_over, gate_table, rotation_table}
 use Rattle.channel_rep.specs.Rows.{rotated, moved}
 use Rattle.channel_rep.specs.declared.gate.ChannelGate.{ChannelGate}
@@ -27,7 +27,7 @@ HasIndependentColumns size m = (x : SurdTable) → ((row : ℕ) → row < size �
 
 -- ---- steps
 -- a gate moves each number to some row
-gate_independent : (n : ℕ) → 0 < n → n ≤ 3 → (g : ChannelGate) → Fits n g → HasIndependentColumns (4 ^ n) (gate_table n g)
+gate_independent : (n : ℕ) → 0 < n → n ≤ 3 → (g : ChannelGate) → GateFits n g → HasIndependentColumns (4 ^ n) (gate_table n g)
 unfolding moved
 gate_independent n some few g fits x h k l =
     let low = image-lt n some few g fits k l in

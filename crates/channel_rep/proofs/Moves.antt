@@ -6,7 +6,7 @@ use Rattle.std.proofs.lemmas.Bool.{cases_eq}
 use Rattle.tc_ring.specs.Surds.{Surd, surd_times}
 use Rattle.tc_ring.specs.declared.root2.Root2.{Root2}
 use Rattle.pauli_basis.specs.Products.{Signed}
-use Rattle.channel_rep.specs.Gates.{Fits, image, positive}
+use Rattle.channel_rep.specs.Gates.{GateFits, image, positive}
 use Rattle.channel_rep.specs.Tables.{ScaledTable, Step, by_gate, stepped, built_on, SameTable, IsBuiltOf, signed}
 use Rattle.channel_rep.specs.Rows.{moved}
 use Rattle.channel_rep.specs.Cells.{cell_of, entries}
@@ -37,7 +37,7 @@ gates_built n (g ∷ gates) steps m h =
 
 module _ (n : ℕ) (some : 0 < n) (few : n ≤ 3) where
   -- a row goes to its image, with its sign
-  gate_moves : (g : ChannelGate) → Fits n g → (m : ScaledTable) (s : Signed) (c : ℕ) (x : Surd) → s.code < 4 ^ n → m.table s.code c ≡ signed s.is_negative x
+  gate_moves : (g : ChannelGate) → GateFits n g → (m : ScaledTable) (s : Signed) (c : ℕ) (x : Surd) → s.code < 4 ^ n → m.table s.code c ≡ signed s.is_negative x
       → (stepped n (by_gate g) m).table (conjugated n g s).code c ≡ signed (conjugated n g s).is_negative x
   unfolding moved
   gate_moves g fits m s c x l h =
@@ -46,7 +46,7 @@ module _ (n : ℕ) (some : 0 < n) (few : n ≤ 3) where
       ∙ ap (signed (image n g s.code).is_negative) h ∙ signed-signed (image n g s.code).is_negative s.is_negative x
 
   -- the same of gates one after another
-  gates_move : (gates : List ChannelGate) → AllByRecursion (Fits n) gates → (m : ScaledTable) (s : Signed) (c : ℕ) (x : Surd) → s.code < 4 ^ n → m.table s.code c ≡ signed s.is_negative x
+  gates_move : (gates : List ChannelGate) → AllByRecursion (GateFits n) gates → (m : ScaledTable) (s : Signed) (c : ℕ) (x : Surd) → s.code < 4 ^ n → m.table s.code c ≡ signed s.is_negative x
       → (built_on n m (gate_steps gates)).table (conjugated_by n gates s).code c ≡ signed (conjugated_by n gates s).is_negative x
   gates_move [] fits m s c x l h = h
   gates_move (g ∷ gates) fits m s c x l h =

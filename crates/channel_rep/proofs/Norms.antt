@@ -1,4 +1,4 @@
--- Tables with orthogonal columns: products and moved rows have them too, so each circuit's channel has. Their norm bounds
+-- Lemmas for the crates above: tables with orthogonal columns: products and moved rows have them too, so each circuit's channel has. Their norm bounds
 -- each entry.
 use Rattle.std.proofs.Common.{◌≡◌, ◌≢◌, ℕ, zero, suc, ◌+◌, ◌*◌, ◌^◌, ◌<◌, ◌≤◌, Bool, true, false, not, List, [], ◌∷◌, refl, ap, sym, ◌∙◌, subst, inl, inr, arith, lit<}
 use Rattle.std.specs.Prelude.{pos, ◌+ℤ◌, ◌*ℤ◌, nat_abs}
@@ -17,7 +17,7 @@ use Rattle.tc_ring.specs.Surds.{Surd, surds, surd_integer, surd_plus, surd_negat
 use Rattle.tc_ring.proofs.Surds.{surds_laws, same_surd, surd_times_assoc, surd_times_comm, surd_times-one, surd_integer-times, root2_surd-squared, cancel_root2_power}
 use Rattle.pauli_basis.specs.Products.{product_code, commute, anti_sign}
 use Rattle.pauli_basis.proofs.Products.{product_code-back, commute-back, anti_sign-back}
-use Rattle.channel_rep.specs.Gates.{image, Fits}
+use Rattle.channel_rep.specs.Gates.{image, GateFits}
 use Rattle.channel_rep.specs.Tables.{SurdTable, ScaledTable, Step, by_gate, by_rotation, by_inverse_rotation, IsStep, step_table, step_exponent, stepped, built_on, built, SameTable, IsCircuitChannel, signed, turned_over, gate_table, rotation_table}
 use Rattle.channel_rep.specs.Rows.{moved}
 use Rattle.channel_rep.specs.Conjugations.{PauliMap, image_of, IsPauliMap, MovesRows}
@@ -144,7 +144,7 @@ inverse_rotation n inverse p lp d r c l =
 
 module _ (n : ℕ) (some : 0 < n) (few : n ≤ 3) where
   -- the columns of a gate's table
-  gate_columns : (g : ChannelGate) → Fits n g → HasOrthogonalColumns (4 ^ n) 0 (gate_table n g)
+  gate_columns : (g : ChannelGate) → GateFits n g → HasOrthogonalColumns (4 ^ n) 0 (gate_table n g)
   unfolding product gate_table
   gate_columns g fits r c l l' =
       sum_cong surds_laws (4 ^ n) _ _ (λ k h. ap (λ x. surd_times (signed (image n g r).is_negative x) (gate_table n g k c)) (same_entry k (image n g r).code (image n g r).code k sym sym))
@@ -163,7 +163,7 @@ module _ (n : ℕ) (some : 0 < n) (few : n ≤ 3) where
       one_source e = sym (image-image n some few g fits r l) ∙ ap (λ j. (image n g j).code) e ∙ image-image n some few g fits c l'
 
   -- and its rows
-  gate_rows : (g : ChannelGate) → Fits n g → HasOrthogonalColumns (4 ^ n) 0 (transposed (gate_table n g))
+  gate_rows : (g : ChannelGate) → GateFits n g → HasOrthogonalColumns (4 ^ n) 0 (transposed (gate_table n g))
   unfolding moved gate_table
   gate_rows g fits r c l l' =
       gate_rule n some few g fits (transposed (gate_table n g)) r c l

@@ -1,4 +1,4 @@
--- Cells divided by √2, several times.
+-- Lemmas for the crates above: cells divided by √2, several times.
 use Rattle.std.proofs.Common.{◌≡◌, ℕ, ◌+◌, ◌-◌, ◌≤◌, ap, ◌∙◌, arith}
 use Rattle.ring_laws.specs.Ring.{power}
 use Rattle.ring_laws.proofs.Ring.{one-mul}

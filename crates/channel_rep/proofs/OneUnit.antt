@@ -26,6 +26,15 @@ unit_is_not_zero x u z = elim u [
   | inr e ↦ (let h = ap (λ (s : Surd). s.a) (sym e ∙ z) in omega (arith, ints))
 ]
 
+-- one unit among the same numbers
+pub same_unit : (size : ℕ) (f g : ℕ → Surd) → ((k : ℕ) → k < size → g k ≡ f k) → HasOneUnit size f → HasOneUnit size g
+same_unit size f g e h = record {
+  place = h.place;
+  below = h.below;
+  unit = subst IsUnit (sym (e h.place h.below)) h.unit;
+  others = λ k l d. e k l ∙ h.others k l d;
+}
+
 module _ (f : ℕ → Surd) where
   -- zeros, and one more
   pub more_zero : (i : ℕ) → ((k : ℕ) → k < i → f k ≡ zero_surd) → f i ≡ zero_surd → (k : ℕ) → k < i + 1 → f k ≡ zero_surd

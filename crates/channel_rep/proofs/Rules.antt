@@ -9,7 +9,7 @@ use Rattle.tc_ring.specs.Surds.{Surd, surds, surd_plus, surd_times, zero_surd, o
 use Rattle.tc_ring.proofs.Surds.{surds_laws, surd_plus-zero, surd_times_assoc}
 use Rattle.pauli_basis.specs.Products.{product_code, commute, anti_sign}
 use Rattle.pauli_basis.proofs.Products.{product_code-lt, product_code-back, product_code-apart, commute-back, anti_sign-back}
-use Rattle.channel_rep.specs.Gates.{image, Fits}
+use Rattle.channel_rep.specs.Gates.{image, GateFits}
 use Rattle.channel_rep.specs.Tables.{SurdTable, signed, turned_over, gate_table, rotation_table}
 use Rattle.channel_rep.specs.Rows.{rotated, moved}
 use Rattle.channel_rep.specs.declared.gate.ChannelGate.{ChannelGate}
@@ -45,7 +45,7 @@ signed_row size b s c m l =
     plain_row size s c m l = identity-product surds_laws size m s c l
 
 -- ---- gates
-pub gate_rule : (n : ℕ) → 0 < n → n ≤ 3 → (g : ChannelGate) → Fits n g → (m : SurdTable) (r c : ℕ) → r < 4 ^ n → product surds (4 ^ n) (gate_table n g) m r c ≡ moved n g m r c
+pub gate_rule : (n : ℕ) → 0 < n → n ≤ 3 → (g : ChannelGate) → GateFits n g → (m : SurdTable) (r c : ℕ) → r < 4 ^ n → product surds (4 ^ n) (gate_table n g) m r c ≡ moved n g m r c
 unfolding product moved gate_table
 gate_rule n some few g fits m r c l =
     sum_cong surds_laws (4 ^ n) _ _ (λ k h. ap (λ x. surd_times x (m k c)) (entry k h)) ∙ signed_row (4 ^ n) (image n g from).is_negative from c m (image-lt n some few g fits r l)

@@ -7,7 +7,7 @@ use Rattle.tc_ring.specs.Surds.{surd_plus, surd_times, root2_surd, SurdWithin}
 use Rattle.tc_ring.specs.declared.root2.Root2.{Root2}
 use Rattle.pauli_basis.specs.Products.{product_code, commute, anti_sign}
 use Rattle.pauli_basis.proofs.Products.{product_code-lt, product_code-back, commute-back, anti_sign-back}
-use Rattle.channel_rep.specs.Gates.{image, Fits}
+use Rattle.channel_rep.specs.Gates.{image, GateFits}
 use Rattle.channel_rep.specs.Tables.{SurdTable, signed, turned_over}
 use Rattle.channel_rep.specs.Rows.{rotated, moved, rotation_turn, gate_turn}
 use Rattle.channel_rep.specs.Cells.{entries}
@@ -236,7 +236,7 @@ gate_turn_is n g r = refl
 pub gate_turn-le : (n : ℕ) (g : ChannelGate) (r : ℕ) → gate_turn n g r ≤ r
 gate_turn-le n g r = omega (arith, gate_turn_is n g r)
 
-module _ (n : ℕ) (some : 0 < n) (few : n ≤ 3) (g : ChannelGate) (fits : Fits n g) where
+module _ (n : ℕ) (some : 0 < n) (few : n ≤ 3) (g : ChannelGate) (fits : GateFits n g) where
   -- a row and its image have one turn
   image_turn : (r : ℕ) → r < 4 ^ n → gate_turn n g (image n g r).code ≡ gate_turn n g r
   image_turn r l =

@@ -3,7 +3,7 @@
 use Rattle.std.specs.Prelude.{◌≡◌, ◌≢◌, ℕ, ◌/◌, ◌%◌, ◌^◌, ◌<◌, ◌≤◌, ◌==◌, List, [], ◌∷◌, slice_index}
 use Rattle.std.specs.List.{AllByRecursion}
 use Rattle.pauli_basis.specs.Products.{Signed}
-use Rattle.channel_rep.specs.Gates.{Fits, image, positive}
+use Rattle.channel_rep.specs.Gates.{GateFits, image, positive}
 use Rattle.channel_rep.specs.Tables.{Step, by_gate, SurdTable, signed, turned_over}
 use Rattle.channel_rep.specs.declared.gate.ChannelGate.{ChannelGate}
 
@@ -44,7 +44,7 @@ pub record IsPauliMap (m : PauliMap) : Type 0 where
 
 -- it is conjugation by these gates, the first one first
 pub record IsConjugationBy (gates : List ChannelGate) (m : PauliMap) : Type 0 where
-  pub fit : AllByRecursion (Fits m.qubits) gates
+  pub fit : AllByRecursion (GateFits m.qubits) gates
   pub images : (p : ℕ) → p < 4 ^ m.qubits → image_of m p ≡ conjugated_by m.qubits gates (positive p)
 
 -- each row of a table stands in the new one at the row of its image, with the image's sign

@@ -7,11 +7,11 @@ use Rattle.channel_rep.specs.declared.gate.ChannelGate.{ChannelGate}
 use Rattle.channel_rep.specs.declared.gate.ChannelGate.TheVariants.{H, S, Sdg, Cx}
 
 -- a gate of n qubits: its qubits are below n, and the two of a cx differ
-abbrev pub Fits : ℕ → ChannelGate → Type 0
-Fits n (H q) = q < n
-Fits n (S q) = q < n
-Fits n (Sdg q) = q < n
-Fits n (Cx control target) = (control < n) × (target < n) × (control ≢ target)
+abbrev pub GateFits : ℕ → ChannelGate → Type 0
+GateFits n (H q) = q < n
+GateFits n (S q) = q < n
+GateFits n (Sdg q) = q < n
+GateFits n (Cx control target) = (control < n) × (target < n) × (control ≢ target)
 
 abbrev pub positive : ℕ → Signed
 positive code = record { code = code; is_negative = false }

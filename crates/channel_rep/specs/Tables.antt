@@ -7,7 +7,7 @@ use Rattle.ring_laws.specs.Ring.{power}
 use Rattle.ring_laws.specs.Matrix.{identity, product}
 use Rattle.tc_ring.specs.Surds.{Surd, surds, surd_plus, surd_times, surd_negative, root2_surd}
 use Rattle.pauli_basis.specs.Products.{product_code, commute, anti_sign}
-use Rattle.channel_rep.specs.Gates.{image, Fits}
+use Rattle.channel_rep.specs.Gates.{image, GateFits}
 use Rattle.channel_rep.specs.declared.gate.ChannelGate.{ChannelGate}
 
 -- an entry for each row and column; those past the size say nothing
@@ -48,7 +48,7 @@ pub data Step : Type 0 where
 
 -- a step on n qubits; the Pauli of a rotation isn't the identity
 abbrev pub IsStep : ℕ → Step → Type 0
-IsStep n (by_gate g) = Fits n g
+IsStep n (by_gate g) = GateFits n g
 IsStep n (by_rotation p) = (p < 4 ^ n) × (p ≢ 0)
 IsStep n (by_inverse_rotation p) = (p < 4 ^ n) × (p ≢ 0)
 

@@ -6,7 +6,7 @@ ghost use Rattle.tc_ring.specs.Surds.{surds, SurdWithin, one_surd};
 ghost use Rattle.channel_rep.specs.Cells.{entries, cell_of, most_exponent, RowWithin};
 ghost use Rattle.channel_rep.specs.Changes.{ChangesRow};
 ghost use Rattle.channel_rep.specs.Conjugations.{IsConjugationBy, MovesRows, gate_steps};
-ghost use Rattle.channel_rep.specs.Gates.{Fits};
+ghost use Rattle.channel_rep.specs.Gates.{GateFits};
 ghost use Rattle.channel_rep.specs.Norms.{HasNorm};
 ghost use Rattle.channel_rep.specs.Tables.{Step, by_gate, by_rotation, by_inverse_rotation, gate_table, rotation_table, signed, ScaledTable, SameTable, IsBuiltOf};
 
@@ -125,7 +125,7 @@ impl Channel {
 
     /// Makes the channel into the gate's channel times it, in place.
     pub fn left_gate(&mut self, gate: ChannelGate)
-        requires { Fits self.old.qubits gate }
+        requires { GateFits self.old.qubits gate }
         ensures qubits { self.new.qubits ≡ self.old.qubits }
         ensures exponent { self.new.exponent ≡ self.old.exponent }
         ensures table { Agree surds (4 ^ self.old.qubits) (table_of self.new)

@@ -2,7 +2,7 @@
 // A letter's bits are (high, low), and X = (0, 1), Y = (1, 0), Z = (1, 1). A gate changes all images in one loop without
 // a branch, for which the compiler has vector instructions.
 ghost use Rattle.std.specs.Prelude.{◌≡◌, ◌≢◌, ℕ, ◌/◌, ◌%◌, ◌*◌, ◌+◌, ◌^◌, ◌<◌, ◌≤◌, List, [], ◌∷◌, ◌++◌, slice_index};
-ghost use Rattle.channel_rep.specs.Gates.{Fits, positive};
+ghost use Rattle.channel_rep.specs.Gates.{GateFits, positive};
 ghost use Rattle.channel_rep.specs.Conjugations.{pauli_in, conjugated};
 
 use crate::ChannelGate;
@@ -72,7 +72,7 @@ fn change_each<F: Fn(u8) -> u8>(images: &mut [u8; CODES], rule: F)
 
 /// Puts a gate behind each image. The gate is looked at once, and not at each image.
 fn put_behind(images: &mut [u8; CODES], gate: ChannelGate)
-    requires { Fits 3 gate }
+    requires { GateFits 3 gate }
     ensures { (p : ℕ) → p < 64
         → pauli_in (slice_index images.new p) ≡ conjugated 3 gate (pauli_in (slice_index images.old p)) }
 {
@@ -124,7 +124,7 @@ impl Conjugation {
 
     /// Puts a gate behind it: the image of each Pauli becomes what the gate makes of that image.
     pub fn then(&mut self, gate: ChannelGate)
-        requires { Fits self.old.qubits gate }
+        requires { GateFits self.old.qubits gate }
         ensures qubits { self.new.qubits ≡ self.old.qubits }
         ensures images { (p : ℕ) → p < 4 ^ self.old.qubits
             → image_of self.new p ≡ conjugated self.old.qubits gate (image_of self.old p) }

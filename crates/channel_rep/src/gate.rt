@@ -105,15 +105,15 @@ fn cx_image(control: u8, target: u8, code: u8) -> (u8, bool)
 }
 
 impl ChannelGate {
-    ghost use Rattle.channel_rep.specs.Gates.{image, Fits};
+    ghost use Rattle.channel_rep.specs.Gates.{image, GateFits};
 
     /// What conjugation by the gate makes of a code, g·P·g†, and whether with a negative sign.
     pub fn image(self, code: u8) -> (u8, bool)
-        requires fits { Fits 3 self }
+        requires fits { GateFits 3 self }
         requires code { code < 64 }
-        ensures code { (n : ℕ) → n ≤ 3 → Fits n self → code < 4 ^ n
+        ensures code { (n : ℕ) → n ≤ 3 → GateFits n self → code < 4 ^ n
             → result.0 ≡ (image n self code).code }
-        ensures sign { (n : ℕ) → n ≤ 3 → Fits n self → code < 4 ^ n
+        ensures sign { (n : ℕ) → n ≤ 3 → GateFits n self → code < 4 ^ n
             → result.1 ≡ (image n self code).is_negative }
     {
         match self {

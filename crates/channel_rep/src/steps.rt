@@ -4,7 +4,7 @@ ghost use Rattle.channel_rep.specs.Cells.{entries, EntriesWithin};
 ghost use Rattle.channel_rep.specs.Changes.{ChangesRows};
 ghost use Rattle.channel_rep.specs.Rows.{rotated, moved, rotation_turn, gate_turn};
 ghost use Rattle.channel_rep.specs.Conjugations.{IsPauliMap, MovesRows};
-ghost use Rattle.channel_rep.specs.Gates.{Fits};
+ghost use Rattle.channel_rep.specs.Gates.{GateFits};
 ghost use Rattle.tc_ring.specs.Surds.{SurdWithin};
 
 use crate::rows::{put_row, scale_row, sign_row, swap_pair, turn_pair};
@@ -68,7 +68,7 @@ pub fn rotate_rows(cells: &mut [Root2], p: &Pauli, inverse: bool)
 fn move_row(cells: &mut [Root2], n: u8, gate: ChannelGate, row: usize)
     requires some { 0 < n }
     requires few { n ≤ 3 }
-    requires fits { Fits n gate }
+    requires fits { GateFits n gate }
     requires below { row < 4 ^ n }
     requires whole { length cells.old ≡ 4 ^ n * 4 ^ n }
     requires small { (r c : ℕ) → r < 4 ^ n → c < 4 ^ n → gate_turn n gate r ≡ row
@@ -91,7 +91,7 @@ fn move_row(cells: &mut [Root2], n: u8, gate: ChannelGate, row: usize)
 pub fn move_rows(cells: &mut [Root2], n: u8, gate: ChannelGate)
     requires some { 0 < n }
     requires few { n ≤ 3 }
-    requires fits { Fits n gate }
+    requires fits { GateFits n gate }
     requires whole { length cells.old ≡ 4 ^ n * 4 ^ n }
     requires small { EntriesWithin (2 ^ 62) (4 ^ n) cells.old }
     ensures whole { length cells.new ≡ 4 ^ n * 4 ^ n }

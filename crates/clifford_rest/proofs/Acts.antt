@@ -12,7 +12,7 @@ use Rattle.tc_circuit.specs.Gate.{Table, gate_table}
 use Rattle.tc_circuit.specs.Model.{ScaledMatrix, after, matrix_of}
 use Rattle.pauli_basis.specs.Products.{Signed}
 use Rattle.channel_rep.specs.declared.gate.ChannelGate.{ChannelGate}
-use Rattle.channel_rep.specs.Gates.{Fits, image, positive}
+use Rattle.channel_rep.specs.Gates.{GateFits, image, positive}
 use Rattle.channel_rep.specs.Tables.{ScaledTable, turned_over}
 use Rattle.channel_rep.proofs.Images.{image-lt}
 use Rattle.tc_bridge.specs.Pauli.{pauli_matrix, sign}
@@ -31,7 +31,7 @@ pub record Acts (n : ℕ) (u : Table) (p : ℕ) (s : Signed) : Type 0 where
   pub is : Alike cyclotomics (2 ^ n) (product cyclotomics (2 ^ n) u (pauli_matrix n p)) (multiple cyclotomics (sign s.is_negative) (product cyclotomics (2 ^ n) (pauli_matrix n s.code) u))
 
 -- a gate acts on a code by its image
-pub acts_gate : (n : ℕ) → 0 < n → n ≤ 3 → (g : ChannelGate) → Fits n g → (q : ℕ) → q < 4 ^ n → Acts n (gate_table (as_gate g)) q (image n g q)
+pub acts_gate : (n : ℕ) → 0 < n → n ≤ 3 → (g : ChannelGate) → GateFits n g → (q : ℕ) → q < 4 ^ n → Acts n (gate_table (as_gate g)) q (image n g q)
 acts_gate n some few g fits q l = record { below = image-lt n some few g fits q l; is = gate_conjugates n some few g fits q l }
 
 -- the identity leaves each Pauli
@@ -53,14 +53,14 @@ acts_product n u v p s t h g = record {
 }
 
 -- gates behind a matrix
-pub acts_after : (n : ℕ) → 0 < n → n ≤ 3 → (gates : List ChannelGate) → AllByRecursion (Fits n) gates → (m : ScaledMatrix) (p : ℕ) (s : Signed) → Acts n m.table p s
+pub acts_after : (n : ℕ) → 0 < n → n ≤ 3 → (gates : List ChannelGate) → AllByRecursion (GateFits n) gates → (m : ScaledMatrix) (p : ℕ) (s : Signed) → Acts n m.table p s
     → Acts n (after n m (as_gates gates)).table p (conjugated_by n gates s)
 acts_after n some few [] fits m p s h = h
 acts_after n some few (g ∷ gates) fits m p s h =
     acts_after n some few gates fits.1 _ p (conjugated n g s) (acts_product n m.table (gate_table (as_gate g)) p s (image n g s.code) h (acts_gate n some few g fits.0 s.code h.below))
 
 -- a circuit of Clifford gates acts by their images, one after another
-pub acts_circuit : (n : ℕ) → 0 < n → n ≤ 3 → (gates : List ChannelGate) → AllByRecursion (Fits n) gates → (p : ℕ) → p < 4 ^ n
+pub acts_circuit : (n : ℕ) → 0 < n → n ≤ 3 → (gates : List ChannelGate) → AllByRecursion (GateFits n) gates → (p : ℕ) → p < 4 ^ n
     → Acts n (matrix_of n (as_gates gates)).table p (conjugated_by n gates (positive p))
 acts_circuit n some few gates fits p l = acts_after n some few gates fits (record { table = identity cyclotomics; exponent = 0 }) p (positive p) (acts_identity n p l)
 

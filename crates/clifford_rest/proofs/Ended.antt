@@ -4,7 +4,7 @@ use lib.Dec.{eqb_refl}
 use Rattle.std.specs.List.{AllByRecursion}
 use Rattle.pauli_basis.specs.Products.{Signed, commute}
 use Rattle.pauli_basis.proofs.Small.{all, all_at, and_left, and_right}
-use Rattle.channel_rep.specs.Gates.{Fits, positive}
+use Rattle.channel_rep.specs.Gates.{GateFits, positive}
 use Rattle.channel_rep.specs.declared.gate.ChannelGate.{ChannelGate}
 use Rattle.channel_rep.specs.declared.gate.ChannelGate.TheVariants.{H, S, Sdg, Cx}
 use Rattle.clifford_rest.specs.Rest.{IsUndoGate}
@@ -91,7 +91,7 @@ apart_from : (c t : ℕ) → Holds (not (eqb c t)) → c ≡ t → ⊥
 apart_from c t h e = T_not (eqb c t) h (subst (λ (x : ℕ). Holds (eqb c x)) e (eqb_refl c))
 
 -- a gate that passes the test fits
-fits_is : (n : ℕ) (g : ChannelGate) → Holds (fits n g) → Fits n g
+fits_is : (n : ℕ) (g : ChannelGate) → Holds (fits n g) → GateFits n g
 fits_is n (H q) h = ltb→lt q n h
 fits_is n (S q) h = absurd h
 fits_is n (Sdg q) h = ltb→lt q n h
@@ -100,7 +100,7 @@ fits_is n (Cx c t) h =
     (ltb→lt c n (and_left (ltb c n) _ h), ltb→lt t n (and_left (ltb t n) _ g), apart_from c t (and_right (ltb t n) _ g))
 
 -- so do all gates
-all_fit_is : (n : ℕ) (gates : List ChannelGate) → Holds (all_fit n gates) → AllByRecursion (Fits n) gates
+all_fit_is : (n : ℕ) (gates : List ChannelGate) → Holds (all_fit n gates) → AllByRecursion (GateFits n) gates
 all_fit_is n [] h = tt
 all_fit_is n (g ∷ gates) h = (fits_is n g (and_left (fits n g) _ h), all_fit_is n gates (and_right (fits n g) _ h))
 
@@ -118,7 +118,7 @@ all_undo_gates n (g ∷ gates) h = (undo_gate_is n g (and_left (fits n g) _ h), 
 
 -- the gates of one qubit's sweep take A to X and B to Z on q, and leave X and Z on the lower qubits
 pub record Ended (n q : ℕ) (a b : Signed) : Type 0 where
-  pub fits_all : AllByRecursion (Fits n) (qubit_gates n q a b)
+  pub fits_all : AllByRecursion (GateFits n) (qubit_gates n q a b)
   pub kinds : AllByRecursion IsUndoGate (qubit_gates n q a b)
   pub short : length (qubit_gates n q a b) ≤ most n q
   pub a_is : conjugated_by n (qubit_gates n q a b) a ≡ positive (4 ^ q)

@@ -10,7 +10,7 @@ use Rattle.ring_laws.proofs.Cyclotomic.{cyclotomics_laws as laws, zero-times, pl
 use Rattle.tc_circuit.specs.Gate.{Table, gate_table, gate_exponent}
 use Rattle.tc_circuit.specs.Model.{ScaledMatrix, after}
 use Rattle.channel_rep.specs.declared.gate.ChannelGate.{ChannelGate}
-use Rattle.channel_rep.specs.Gates.{Fits}
+use Rattle.channel_rep.specs.Gates.{GateFits}
 use Rattle.tc_bridge.specs.Rotation.{axis}
 use Rattle.tc_bridge.specs.Pauli.{pauli_matrix}
 use Rattle.tc_bridge.specs.Block.{as_gate, as_gates}
@@ -32,7 +32,7 @@ pub invertible_identity : (n : ℕ) → IsInvertible n (identity cyclotomics)
 invertible_identity n = record { inverse = identity cyclotomics; roots = 0; is = one-product laws _ ⊙ alike-sym (multiple-factor laws (power-zero laws root2) _ ⊙ multiple-one laws _) }
 
 -- a Clifford gate, by its conjugate transpose
-pub invertible_gate : (n : ℕ) → 0 < n → n ≤ 3 → (g : ChannelGate) → Fits n g → IsInvertible n (gate_table (as_gate g))
+pub invertible_gate : (n : ℕ) → 0 < n → n ≤ 3 → (g : ChannelGate) → GateFits n g → IsInvertible n (gate_table (as_gate g))
 invertible_gate n some few g fits =
     let e = gate_exponent (as_gate g) in
     record { inverse = adjoint (gate_table (as_gate g)); roots = e + e; is = (unitary_gate n some few (as_gate g) (gate_fits n g fits)).right }
@@ -48,7 +48,7 @@ invertible_product n v u hv hu = record {
 }
 
 -- Clifford gates behind a matrix
-pub invertible_after : (n : ℕ) → 0 < n → n ≤ 3 → (gates : List ChannelGate) → AllByRecursion (Fits n) gates → (m : ScaledMatrix) → IsInvertible n m.table → IsInvertible n (after n m (as_gates gates)).table
+pub invertible_after : (n : ℕ) → 0 < n → n ≤ 3 → (gates : List ChannelGate) → AllByRecursion (GateFits n) gates → (m : ScaledMatrix) → IsInvertible n m.table → IsInvertible n (after n m (as_gates gates)).table
 invertible_after n some few [] fits m h = h
 invertible_after n some few (g ∷ gates) fits m h = invertible_after n some few gates fits.1 _ (invertible_product n (gate_table (as_gate g)) m.table (invertible_gate n some few g fits.0) h)
 

@@ -11,7 +11,7 @@ use Rattle.pauli_basis.specs.Products.{Signed}
 use Rattle.channel_rep.specs.declared.gate.ChannelGate.{ChannelGate}
 use Rattle.channel_rep.specs.declared.gate.ChannelGate.TheVariants.{H, S, Sdg, Cx}
 use Rattle.channel_rep.specs.Cells.{ChannelGrid, table_of, scaled, IsSignedPermutation}
-use Rattle.channel_rep.specs.Gates.{Fits, positive}
+use Rattle.channel_rep.specs.Gates.{GateFits, positive}
 use Rattle.channel_rep.specs.Tables.{ScaledTable, Step, by_gate, by_rotation, by_inverse_rotation, IsStep, step_table, step_exponent, stepped, built_on, built, IsBuiltOf, IsCircuitChannel}
 use Rattle.tc_bridge.specs.Block.{as_gate, as_gates, inverse_gate, undone}
 use Rattle.tc_bridge.specs.Channel.{IsChannel}
@@ -41,7 +41,7 @@ pub record Stands (n : ℕ) (c : ScaledTable) : Type 0 where
 
 module _ (n : ℕ) (some : 0 < n) (few : n ≤ 3) where
   -- a gate's table is that of the gate
-  gate_stands : (g : ChannelGate) → Fits n g → Stands n (record { table = step_table n (by_gate g); exponent = 0 })
+  gate_stands : (g : ChannelGate) → GateFits n g → Stands n (record { table = step_table n (by_gate g); exponent = 0 })
   gate_stands (H q) fits = record { matrix = gate_table (as_gate (H q)); invertible = invertible_gate n some few (H q) fits; channel = step_channel n some few (as_gate (H q)) fits }
   gate_stands (S q) fits = record { matrix = gate_table (as_gate (S q)); invertible = invertible_gate n some few (S q) fits; channel = step_channel n some few (as_gate (S q)) fits }
   gate_stands (Sdg q) fits = record { matrix = gate_table (as_gate (Sdg q)); invertible = invertible_gate n some few (Sdg q) fits; channel = step_channel n some few (as_gate (Sdg q)) fits }
@@ -126,7 +126,7 @@ module _ (c : ChannelGrid) (some : 0 < c.qubits) (few : c.qubits ≤ 3) (permuta
   whole = swept n some few matrix made takes n (omega arith)
 
   -- the gates fit
-  pub undo_fits : AllByRecursion (Fits n) gates
+  pub undo_fits : AllByRecursion (GateFits n) gates
   undo_fits = whole.fits
 
   -- there are at most 45
@@ -143,7 +143,7 @@ module _ (c : ChannelGrid) (some : 0 < c.qubits) (few : c.qubits ≤ 3) (permuta
       subst (HasEntry n (built_on n (scaled c) (steps_of (as_gates gates))) q) (undo_ends q l) (entry_gates n some few gates undo_fits (scaled c) q l (made q) (sent_entry c permutation q l)))
 
   -- ---- the rest
-  rest_fits : AllByRecursion (Fits n) rest
+  rest_fits : AllByRecursion (GateFits n) rest
   rest_fits = undone_fits n gates undo_fits
 
   -- the rest makes of each Pauli what the channel does

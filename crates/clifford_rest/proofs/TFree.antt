@@ -10,8 +10,9 @@ use Rattle.tc_circuit.specs.Model.{IsCircuit, t_count_of}
 use Rattle.tc_circuit.specs.declared.circuit.Gate.{Gate}
 use Rattle.tc_circuit.specs.declared.circuit.Gate.TheVariants.{H, S, Sdg, T, Tdg, Cx}
 use Rattle.channel_rep.specs.declared.gate.ChannelGate.{ChannelGate}
-use Rattle.channel_rep.specs.Cells.{ChannelGrid, table_of, scaled, IsReduced, IsUnit, HasOneUnit, IsSignedPermutation}
-use Rattle.channel_rep.specs.Gates.{Fits}
+use Rattle.channel_rep.specs.Cells.{ChannelGrid, table_of, scaled, IsReduced, IsSignedPermutation}
+use Rattle.channel_rep.specs.Gates.{GateFits}
+use Rattle.channel_rep.proofs.OneUnit.{same_unit}
 use Rattle.channel_rep.specs.Tables.{ScaledTable, built, IsBuiltOf}
 use Rattle.tc_bridge.specs.Block.{as_gates}
 use Rattle.tc_bridge.specs.Steps.{steps_of}
@@ -21,11 +22,11 @@ use Rattle.tc_bridge.proofs.CliffordTables.{gates_exponent, row_unit, column_uni
 -- ---- a circuit without T gates has Clifford gates alone
 pub record IsClifford (n : ℕ) (gates : List Gate) : Type 0 where
   pub clifford : List ChannelGate
-  pub fits : AllByRecursion (Fits n) clifford
+  pub fits : AllByRecursion (GateFits n) clifford
   pub is : as_gates clifford ≡ gates
 
 -- one gate more
-more_clifford : (n : ℕ) (g : ChannelGate) (h : Gate) (gates : List Gate) → Fits n g → as_gates (g ∷ []) ≡ h ∷ [] → IsClifford n gates → IsClifford n (h ∷ gates)
+more_clifford : (n : ℕ) (g : ChannelGate) (h : Gate) (gates : List Gate) → GateFits n g → as_gates (g ∷ []) ≡ h ∷ [] → IsClifford n gates → IsClifford n (h ∷ gates)
 more_clifford n g h gates fits e c = record { clifford = g ∷ c.clifford; fits = (fits, c.fits); is = cc (c.is, e) }
 
 -- gate by gate
@@ -89,19 +90,10 @@ module _ (c : ChannelGrid) (some : 0 < c.qubits) (few : c.qubits ≤ 3) (gates :
   equal : (row column : ℕ) → row < 4 ^ n → column < 4 ^ n → table_of c row column ≡ clifford_table.table row column
   equal row column lr lc = cells row column lr lc ∙ one_times c.exponent (clifford_table.table row column) exponent
 
-  -- one unit among the same numbers
-  same_unit : (f g : ℕ → Surd) → ((k : ℕ) → k < 4 ^ n → g k ≡ f k) → HasOneUnit (4 ^ n) f → HasOneUnit (4 ^ n) g
-  same_unit f g e h = record {
-    place = h.place;
-    below = h.below;
-    unit = subst IsUnit (sym (e h.place h.below)) h.unit;
-    others = λ k l d. e k l ∙ h.others k l d;
-  }
-
   -- the channel is a signed permutation
   pub is_permutation : IsSignedPermutation c
   is_permutation = record {
     exponent = exponent;
-    rows = λ row l. same_unit (λ column. clifford_table.table row column) (λ column. table_of c row column) (λ column h. equal row column l h) (row_unit n some few made_of.clifford made_of.fits row l);
-    columns = λ column l. same_unit (λ row. clifford_table.table row column) (λ row. table_of c row column) (λ row h. equal row column h l) (column_unit n some few made_of.clifford made_of.fits column l);
+    rows = λ row l. same_unit (4 ^ n) (λ column. clifford_table.table row column) (λ column. table_of c row column) (λ column h. equal row column l h) (row_unit n some few made_of.clifford made_of.fits row l);
+    columns = λ column l. same_unit (4 ^ n) (λ row. clifford_table.table row column) (λ row. table_of c row column) (λ row h. equal row column h l) (column_unit n some few made_of.clifford made_of.fits column l);
   }

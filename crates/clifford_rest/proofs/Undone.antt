@@ -10,7 +10,7 @@ use Rattle.pauli_basis.specs.Products.{Signed, product_code, clashes, commute, s
 use Rattle.pauli_basis.proofs.Small.{all, all_at, and_left, and_right}
 use Rattle.pauli_basis.proofs.Products.{product_code-lt, commute_both_orders}
 use Rattle.channel_rep.specs.declared.gate.ChannelGate.{ChannelGate}
-use Rattle.channel_rep.specs.Gates.{Fits, positive}
+use Rattle.channel_rep.specs.Gates.{GateFits, positive}
 use Rattle.tc_bridge.specs.Block.{as_gates}
 use Rattle.tc_bridge.proofs.Conjugations.{all-append}
 use Rattle.clifford_rest.specs.Rest.{IsUndoGate}
@@ -159,14 +159,14 @@ most_below n (suc q) = most_below n q + most n q
 module _ (n : ℕ) (some : 0 < n) (few : n ≤ 3) (m : ScaledMatrix) (made : ℕ → Signed) (h : TakesPaulis n m made) where
   -- the gates for the qubits below q leave X and Z on these
   pub record Swept (q : ℕ) : Type 0 where
-    pub fits : AllByRecursion (Fits n) (undo_list n made q)
+    pub fits : AllByRecursion (GateFits n) (undo_list n made q)
     pub kinds : AllByRecursion IsUndoGate (undo_list n made q)
     pub short : length (undo_list n made q) ≤ most_below n q
     pub x : (j : ℕ) → j < q → conjugated_by n (undo_list n made q) (made (4 ^ j)) ≡ positive (4 ^ j)
     pub z : (j : ℕ) → j < q → conjugated_by n (undo_list n made q) (made (3 * 4 ^ j)) ≡ positive (3 * 4 ^ j)
 
   -- gates behind the matrix
-  pub taken : (gates : List ChannelGate) → AllByRecursion (Fits n) gates → TakesPaulis n (after n m (as_gates gates)) (λ p. conjugated_by n gates (made p))
+  pub taken : (gates : List ChannelGate) → AllByRecursion (GateFits n) gates → TakesPaulis n (after n m (as_gates gates)) (λ p. conjugated_by n gates (made p))
   taken gates fits = record {
     invertible = invertible_after n some few gates fits m h.invertible;
     acts = λ p l. acts_after n some few gates fits m p (made p) (h.acts p l);
@@ -228,7 +228,7 @@ module _ (n : ℕ) (some : 0 < n) (few : n ≤ 3) (m : ScaledMatrix) (made : ℕ
     swept_more : Swept (suc q)
     unfolding undo_list
     swept_more = record {
-      fits = all-append (Fits n) (undo_list n made q) gates s.fits end.fits_all;
+      fits = all-append (GateFits n) (undo_list n made q) gates s.fits end.fits_all;
       kinds = all-append IsUndoGate (undo_list n made q) gates s.kinds end.kinds;
       short = let e = length-append (undo_list n made q) gates in omega (arith, e, s.short, end.short);
       x = λ j l. later (4 ^ j) ∙ elim (cases_eq j q) [

@@ -6,7 +6,7 @@ use Rattle.tc_ring.specs.Surds.{surds}
 use Rattle.tc_circuit.specs.Model.{matrix_of, IsCircuit, t_count_of}
 use Rattle.tc_circuit.specs.declared.circuit.Gate.{Gate}
 use Rattle.channel_rep.specs.Cells.{ChannelGrid, scaled, IsReduced, IsSignedPermutation}
-use Rattle.channel_rep.specs.Gates.{Fits}
+use Rattle.channel_rep.specs.Gates.{GateFits}
 use Rattle.channel_rep.specs.Tables.{built_on, IsBuiltOf, IsCircuitChannel}
 use Rattle.tc_bridge.specs.Block.{as_gates}
 use Rattle.tc_bridge.specs.Channel.{IsChannel}
@@ -22,7 +22,7 @@ pub record IsCliffordChannel (c : ChannelGrid) : Type 0 where
 
 -- the channel with the sweep's gates behind it is the identity, and these are at most 45 gates
 pub record EndsAtIdentity (c : ChannelGrid) : Type 0 where
-  pub fit : AllByRecursion (Fits c.qubits) (undo_gates c)
+  pub fit : AllByRecursion (GateFits c.qubits) (undo_gates c)
   pub short : length (undo_gates c) ≤ 45
   pub table : Agree surds (4 ^ c.qubits) (built_on c.qubits (scaled c) (steps_of (as_gates (undo_gates c)))).table (identity surds)
   pub exponent : (built_on c.qubits (scaled c) (steps_of (as_gates (undo_gates c)))).exponent ≡ 0

@@ -2,7 +2,7 @@
 use Rattle.std.specs.Prelude.{ℕ, ◌*◌, ◌^◌, ◌<◌, ◌≤◌, List}
 use Rattle.std.specs.List.{AllByRecursion}
 use Rattle.channel_rep.specs.Cells.{ChannelGrid, table_of}
-use Rattle.channel_rep.specs.Gates.{Fits}
+use Rattle.channel_rep.specs.Gates.{GateFits}
 use Rattle.channel_rep.specs.declared.gate.ChannelGate.{ChannelGate}
 use Rattle.clifford_rest.specs.Rest.{sent_to}
 use Rattle.channel_rep.specs.Conjugations.{conjugated_by}
@@ -19,7 +19,7 @@ pub record IsSweeping (s : Sweeping) : Type 0 where
   pub few : s.qubits ≤ 3
   pub a_below : s.sweep.a.code < 4 ^ s.qubits
   pub b_below : s.sweep.b.code < 4 ^ s.qubits
-  pub fit : AllByRecursion (Fits s.qubits) s.sweep.gates
+  pub fit : AllByRecursion (GateFits s.qubits) s.sweep.gates
 
 -- the gates that undo qubit q of an operator, from its channel, with gates behind it
 abbrev pub gates_behind : ChannelGrid → List ChannelGate → ℕ → List ChannelGate

@@ -3,7 +3,7 @@ ghost use Rattle.std.specs.Prelude.{◌≡◌, ◌*◌, ◌^◌, ◌<◌, ◌≤
 ghost use Rattle.std.specs.List.{AllByRecursion};
 ghost use Rattle.tc_circuit.specs.Model.{matrix_of, t_count_of};
 ghost use Rattle.channel_rep.specs.Cells.{scaled, table_of, IsSignedPermutation};
-ghost use Rattle.channel_rep.specs.Gates.{Fits};
+ghost use Rattle.channel_rep.specs.Gates.{GateFits};
 ghost use Rattle.channel_rep.specs.Tables.{IsBuiltOf, IsCircuitChannel};
 ghost use Rattle.tc_bridge.specs.Block.{as_gate, as_gates, inverse_gate, undone};
 ghost use Rattle.tc_bridge.specs.Channel.{IsChannel};
@@ -53,7 +53,7 @@ fn z_on(q: u8) -> u8
 /// What the operator of a signed permutation, with gates behind it, makes of a code.
 fn image_behind(c: &Channel, gates: &[ChannelGate], code: u8) -> SignedPauli
     requires permutation { IsSignedPermutation c.now }
-    requires fit { AllByRecursion (Fits c.now.qubits) gates.now }
+    requires fit { AllByRecursion (GateFits c.now.qubits) gates.now }
     requires below { code < 4 ^ c.now.qubits }
     ensures value { result ≡ conjugated_by c.now.qubits gates.now (sent_to c.now.qubits (table_of c.now) code) }
     ensures below { result.code < 4 ^ c.now.qubits }
@@ -69,7 +69,7 @@ fn more_gates(
     q: u8,
 ) -> Result<QubitSweep, AllocError>
     requires permutation { IsSignedPermutation c.now }
-    requires fit { AllByRecursion (Fits c.now.qubits) gates.now }
+    requires fit { AllByRecursion (GateFits c.now.qubits) gates.now }
     requires qubit { q < c.now.qubits }
     ensures qubits { IfOk result (λ s. s.qubits ≡ c.now.qubits) }
     ensures gates { IfOk result (λ s. s.sweep.gates ≡ gates_behind c.now gates.now q) }
@@ -85,7 +85,7 @@ fn more_gates(
 pub(crate) fn undoing(alloc: Global, c: &Channel) -> Result<Vec<ChannelGate>, AllocError>
     requires { IsSignedPermutation c.now }
     ensures value { IfOk result (λ gates. gates.items ≡ undo_gates c.now) }
-    ensures fit { IfOk result (λ gates. AllByRecursion (Fits c.now.qubits) gates.items) }
+    ensures fit { IfOk result (λ gates. AllByRecursion (GateFits c.now.qubits) gates.items) }
 {
     let mut gates = Vec::with_capacity(alloc, MOST_GATES)?;
     for q in 0..c.qubits() {
@@ -99,7 +99,7 @@ pub(crate) fn undoing(alloc: Global, c: &Channel) -> Result<Vec<ChannelGate>, Al
 fn reversed(alloc: Global, n: u8, gates: &[ChannelGate]) -> Result<Circuit, AllocError>
     requires some { 0 < n }
     requires few { n ≤ 3 }
-    requires fit { AllByRecursion (Fits n) gates.now }
+    requires fit { AllByRecursion (GateFits n) gates.now }
     ensures qubits { IfOk result (λ r. r.qubits ≡ n) }
     ensures gates { IfOk result (λ r. r.gates ≡ as_gates (undone gates.now)) }
 {

@@ -2,7 +2,7 @@
 ghost use Rattle.std.specs.Prelude.{◌≡◌, ◌==◌, ◌*◌, ◌^◌, ◌<◌, ◌≤◌};
 ghost use Rattle.std.specs.List.{AllByRecursion};
 ghost use Rattle.channel_rep.specs.Cells.{table_of, IsSignedPermutation};
-ghost use Rattle.channel_rep.specs.Gates.{Fits};
+ghost use Rattle.channel_rep.specs.Gates.{GateFits};
 ghost use Rattle.channel_rep.specs.Conjugations.{conjugated, conjugated_by};
 ghost use Rattle.clifford_rest.specs.Sweep.{has_letter};
 ghost use Rattle.clifford_rest.specs.Rest.{sent_to};
@@ -56,7 +56,7 @@ impl SignedPauli {
     pub(crate) fn conjugated(self, n: u8, gate: ChannelGate) -> SignedPauli
         requires some { 0 < n }
         requires few { n ≤ 3 }
-        requires fits { Fits n gate }
+        requires fits { GateFits n gate }
         requires below { self.code < 4 ^ n }
         ensures value { result ≡ conjugated n gate self }
         ensures below { result.code < 4 ^ n }
@@ -72,7 +72,7 @@ impl SignedPauli {
     pub(crate) fn conjugated_by(self, n: u8, gates: &[ChannelGate]) -> SignedPauli
         requires some { 0 < n }
         requires few { n ≤ 3 }
-        requires fits { AllByRecursion (Fits n) gates.now }
+        requires fits { AllByRecursion (GateFits n) gates.now }
         requires below { self.code < 4 ^ n }
         ensures value { result ≡ conjugated_by n gates.now self }
         ensures below { result.code < 4 ^ n }

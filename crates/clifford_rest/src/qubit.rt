@@ -1,7 +1,7 @@
 // The sweep of one qubit as a whole.
 ghost use Rattle.std.specs.Prelude.{◌≡◌, ◌^◌, ◌<◌, ◌≤◌, OnOk, IfOk};
 ghost use Rattle.std.specs.List.{AllByRecursion};
-ghost use Rattle.channel_rep.specs.Gates.{Fits};
+ghost use Rattle.channel_rep.specs.Gates.{GateFits};
 ghost use Rattle.clifford_rest.specs.Sweep.{sweep_a, sweep_b, sign_a, sign_b, sweep, qubit_gates};
 
 use crate::pauli::SignedPauli;

@@ -1,7 +1,7 @@
 // The sweep of one qubit: its state, and the gates that it undoes.
 ghost use Rattle.std.specs.Prelude.{◌≡◌, ◌+◌, ◌-◌, ◌<◌, ◌≤◌, ◌^◌, OnOk, [], IfOk};
 ghost use Rattle.std.specs.List.{AllByRecursion};
-ghost use Rattle.channel_rep.specs.Gates.{Fits};
+ghost use Rattle.channel_rep.specs.Gates.{GateFits};
 ghost use Rattle.clifford_rest.specs.Sweep.{undo, undo_if, first_x, fetch_x, put_x};
 
 use crate::pauli::SignedPauli;
@@ -52,7 +52,7 @@ impl QubitSweep {
     /// The gates that were undone, the first first.
     pub(crate) fn gates(&self) -> &[ChannelGate]
         ensures value { result.now ≡ self.now.sweep.gates }
-        ensures fit { AllByRecursion (Fits self.now.qubits) result.now }
+        ensures fit { AllByRecursion (GateFits self.now.qubits) result.now }
     {
         &self.gates
     }
@@ -84,7 +84,7 @@ impl QubitSweep {
 
     /// Puts a gate behind the operator.
     pub(crate) fn undo(&mut self, gate: ChannelGate) -> Result<(), AllocError>
-        requires { Fits self.old.qubits gate }
+        requires { GateFits self.old.qubits gate }
         ensures { OnOk result (self.new ≡ record self.old { sweep = undo self.old.qubits gate self.old.sweep }) }
     {
         self.gates.push(gate)?;
@@ -95,7 +95,7 @@ impl QubitSweep {
 
     /// Puts a gate behind the operator where that is asked for.
     pub(crate) fn undo_if(&mut self, asked: bool, gate: ChannelGate) -> Result<(), AllocError>
-        requires { Fits self.old.qubits gate }
+        requires { GateFits self.old.qubits gate }
         ensures { OnOk result (self.new ≡ record self.old { sweep = undo_if asked self.old.qubits gate self.old.sweep }) }
     {
         if asked {

@@ -1,4 +1,4 @@
--- The columns of a table as lists of numbers.
+-- Lemmas for the crates above: the columns of a table as lists of numbers.
 use Rattle.std.proofs.Common.{◌≡◌, ℕ, zero, suc, ◌+◌, ◌^◌, ◌<◌, ◌≤◌, Bool, ◌∷◌, refl, ap, sym, ◌∙◌, inl, inr, arith}
 use Rattle.std.proofs.lemmas.Bool.{cases_eq}
 use Rattle.tc_ring.specs.Surds.{Surd}

@@ -1,4 +1,4 @@
--- Folds of columns in numbers of 64 bits.
+-- Lemmas for the crates above: folds of columns in numbers of 64 bits.
 use Rattle.std.proofs.Common.{◌≡◌, ℕ, zero, suc, ◌+◌, ◌*◌, ◌%◌, ◌^◌, ◌<◌, Bool, true, false, List, [], ◌∷◌, ◌++◌, length, map, take, slice_index, slice_index_or, refl, ap, sym, ◌∙◌, arith, add-one}
 use Rattle.std.specs.Prelude.{pos, neg_ℤ, fold, All}
 use Rattle.std.proofs.Math.Nat.{add-mod, mod-mod, mod-eq_of_lt}

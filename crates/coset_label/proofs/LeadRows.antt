@@ -1,4 +1,4 @@
--- The lead row of a column: that of its first entry other than 0, which decides its sign.
+-- Lemmas for the crates above: the lead row of a column: that of its first entry other than 0, which decides its sign.
 use Rattle.std.proofs.Common.{◌≡◌, ◌≢◌, ℕ, zero, suc, ◌+◌, ◌<◌, ◌≤◌, Bool, false, [], ◌∷◌, refl, ap, sym, ◌∙◌, inl, inr, arith}
 use Rattle.std.specs.Prelude.{ℤ, pos, negsuc}
 use Rattle.std.proofs.lemmas.Bool.{cases_eq}

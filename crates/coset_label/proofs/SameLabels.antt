@@ -11,7 +11,7 @@ use Rattle.channel_rep.specs.Tables.{signed}
 use Rattle.channel_rep.specs.Cells.{ChannelGrid, RowWithin, cell_of, table_of}
 use Rattle.channel_rep.proofs.OneUnit.{same_by_parts}
 use Rattle.coset_label.specs.Labels.{Column, numbers_from}
-use Rattle.coset_label.specs.Scratch.{IsKept, kept_column, cell_at, placed_cell}
+use Rattle.coset_label.specs.Scratch.{IsArranged, kept_column, cell_at, placed_cell}
 use Rattle.coset_label.proofs.TurnedColumns.{turned_numbers}
 use Rattle.coset_label.proofs.ColumnOrder.{turned_cells}
 
@@ -59,7 +59,7 @@ kept_numbers : (m : ChannelGrid) (negative : List Bool) (column : ℕ) → kept_
 kept_numbers m negative column = turned_numbers (slice_index_or negative column false) (λ r. table_of m r column) 0 (4 ^ m.qubits)
 
 -- two labels' columns are the same exactly where their cells are
-pub columns_by_cells : (m k : ChannelGrid) (m_negative k_negative : List Bool) (m_order k_order : List ℕ) → m.qubits ≡ k.qubits → IsKept m m_negative m_order → IsKept k k_negative k_order
+pub columns_by_cells : (m k : ChannelGrid) (m_negative k_negative : List Bool) (m_order k_order : List ℕ) → m.qubits ≡ k.qubits → IsArranged m m_negative m_order → IsArranged k k_negative k_order
     → (map (kept_column m m_negative) m_order ≡ map (kept_column k k_negative) k_order)
     ↔ ((row place : ℕ) → row < 4 ^ m.qubits → place < 4 ^ m.qubits → placed_cell m m_negative m_order row place ≡ placed_cell k k_negative k_order row place)
 columns_by_cells m k m_negative k_negative m_order k_order q h g = (there, back)
@@ -101,7 +101,7 @@ pub small_row : (line : List Root2) → RowWithin (2 ^ 60) line → RowWithin (2
 small_row line small place l = surd_within_more (2 ^ 60) (2 ^ 62) _ (omega arith) (small place l)
 
 -- the cell of a row at a place is that of the label
-pub cell_of_row : (m : ChannelGrid) (line : List Root2) (row : ℕ) (negative : List Bool) (order : List ℕ) (place : ℕ) → ((c : ℕ) → c < 4 ^ m.qubits → cell_of line c ≡ table_of m row c) → IsKept m negative order → place < 4 ^ m.qubits
+pub cell_of_row : (m : ChannelGrid) (line : List Root2) (row : ℕ) (negative : List Bool) (order : List ℕ) (place : ℕ) → ((c : ℕ) → c < 4 ^ m.qubits → cell_of line c ≡ table_of m row c) → IsArranged m negative order → place < 4 ^ m.qubits
     → cell_at (cell_of line) negative order place ≡ placed_cell m negative order row place
 cell_of_row m line row negative order place e h l =
     let column = slice_index order place in

@@ -1,4 +1,4 @@
--- Columns with their signs turned, cell by cell.
+-- Lemmas for the crates above: columns with their signs turned, cell by cell.
 use Rattle.std.proofs.Common.{◌≡◌, ℕ, zero, suc, ◌+◌, Bool, true, false, ◌∷◌, map, refl}
 use Rattle.std.specs.Prelude.{neg_ℤ}
 use Rattle.tc_ring.specs.Surds.{Surd, surd_negative}

@@ -26,7 +26,7 @@ abbrev pub kept_label : ChannelGrid → List Bool → List ℕ → Label
 kept_label m negative order = record { exponent = m.exponent; columns = map (kept_column m negative) order }
 
 -- a sign for each column, and a column at each place
-pub record IsKept (m : ChannelGrid) (negative : List Bool) (order : List ℕ) : Type 0 where
+pub record IsArranged (m : ChannelGrid) (negative : List Bool) (order : List ℕ) : Type 0 where
   pub signs : length negative ≡ 4 ^ m.qubits
   pub places : length order ≡ 4 ^ m.qubits
   pub below : All (λ column. column < 4 ^ m.qubits) order
@@ -36,7 +36,7 @@ pub record IsScratch (m : ChannelGrid) (leads : List ℕ) (negative : List Bool)
   pub some : 0 < m.qubits
   pub few : m.qubits ≤ 3
   pub rows : length leads ≡ 4 ^ m.qubits
-  pub kept : IsKept m negative order
+  pub kept : IsArranged m negative order
 
 -- the row of a column's first entry other than 0, or the number of rows, and whether its first number other than 0 is
 -- negative

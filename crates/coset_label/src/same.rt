@@ -2,7 +2,7 @@
 ghost use Rattle.std.specs.Prelude.{◌≡◌, ℕ, ◌^◌, ◌<◌, ◌↔◌, length, map, All, IsTrue};
 ghost use Rattle.tc_ring.specs.Root2.{surd_of};
 ghost use Rattle.channel_rep.specs.Cells.{cell_of, RowWithin};
-ghost use Rattle.coset_label.specs.Scratch.{IsKept, kept_column, cell_at};
+ghost use Rattle.coset_label.specs.Scratch.{IsArranged, kept_column, cell_at};
 
 use crate::columns::turned;
 use channel_rep::Channel;
@@ -60,8 +60,8 @@ pub fn same_columns(
     y_order: &[u8],
 ) -> bool
     requires qubits { x.now.qubits ≡ y.now.qubits }
-    requires x { IsKept x.now x_negative.now x_order.now }
-    requires y { IsKept y.now y_negative.now y_order.now }
+    requires x { IsArranged x.now x_negative.now x_order.now }
+    requires y { IsArranged y.now y_negative.now y_order.now }
     ensures { IsTrue result
         ↔ (map (kept_column x.now x_negative.now) x_order.now
         ≡ map (kept_column y.now y_negative.now) y_order.now) }

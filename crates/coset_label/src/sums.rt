@@ -3,7 +3,7 @@
 ghost use Rattle.std.specs.Prelude.{◌≡◌, ℕ, ◌+◌, ◌*◌, ◌/◌, ◌%◌, ◌^◌, ◌<◌, ◌≤◌, length, fold, All, slice_index};
 ghost use Rattle.channel_rep.specs.Cells.{cell_of};
 ghost use Rattle.coset_label.specs.Tags.{fold_number, label_numbers};
-ghost use Rattle.coset_label.specs.Scratch.{IsKept, kept_label};
+ghost use Rattle.coset_label.specs.Scratch.{IsArranged, kept_label};
 ghost use Rattle.coset_label.specs.Sums.{AreSums, turned_sum, joined_sums};
 
 use crate::columns::columns_of;
@@ -81,7 +81,7 @@ fn join_sums(first: u64, power: u64, sums: &[u64], negative: &[bool], order: &[u
 
 /// The fold of a label's numbers, in room for the columns' folds.
 fn fold_columns(channel: &Channel, negative: &[bool], order: &[u8], sums: &mut [u64]) -> u64
-    requires kept { IsKept channel.now negative.now order.now }
+    requires kept { IsArranged channel.now negative.now order.now }
     requires columns { length sums.old ≡ 4 ^ channel.now.qubits }
     requires zeros { All (λ sum. sum ≡ 0) sums.old }
     ensures { result % 2 ^ 38
@@ -100,7 +100,7 @@ fn fold_columns(channel: &Channel, negative: &[bool], order: &[u8], sums: &mut [
 
 /// The fold of a label's numbers, modulo 2^64.
 pub fn label_fold(channel: &Channel, negative: &[bool], order: &[u8]) -> u64
-    requires { IsKept channel.now negative.now order.now }
+    requires { IsArranged channel.now negative.now order.now }
     ensures { result % 2 ^ 38
         ≡ fold fold_number 0 (label_numbers (kept_label channel.now negative.now order.now)) }
 {

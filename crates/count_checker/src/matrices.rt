@@ -4,7 +4,7 @@ ghost use Rattle.ring_laws.specs.Cyclotomic.{times, cyclotomics, ω, root2};
 ghost use Rattle.ring_laws.specs.Ring.{power};
 ghost use Rattle.tc_ring.specs.Bounds.{IsWithin};
 ghost use Rattle.tc_ring.specs.Omega.{number_of};
-ghost use Rattle.tc_circuit.specs.Grid.{scaled};
+ghost use Rattle.tc_circuit.specs.Grid.{grid_matrix};
 ghost use Rattle.tc_circuit.specs.Model.{IsMatrixOf, SameUpTo, h_count_of};
 ghost use Rattle.count_checker.specs.Check.{most_h_gates, SameEntry};
 
@@ -16,7 +16,7 @@ use tc_ring::Omega;
 pub(crate) fn matrix_of(alloc: Global, circuit: &Circuit) -> Result<Matrix, AllocError>
     requires { h_count_of circuit.now.gates ≤ most_h_gates }
     ensures qubits { IfOk result (λ m. m.qubits ≡ circuit.now.qubits) }
-    ensures matrix { IfOk result (λ m. IsMatrixOf circuit.now.qubits circuit.now.gates (scaled m)) }
+    ensures matrix { IfOk result (λ m. IsMatrixOf circuit.now.qubits circuit.now.gates (grid_matrix m)) }
 {
     let mut matrix = Matrix::identity(alloc, circuit.qubits())?;
     for gate in circuit.gates() {
@@ -51,7 +51,7 @@ fn is_same_entry(a: &Matrix, b: &Matrix, turns: u8, row: usize, column: usize) -
     requires size { a.now.qubits ≡ b.now.qubits }
     requires row { row < 2 ^ a.now.qubits }
     requires column { column < 2 ^ a.now.qubits }
-    ensures { IsTrue result ↔ SameEntry turns (scaled a.now) (scaled b.now) row column }
+    ensures { IsTrue result ↔ SameEntry turns (grid_matrix a.now) (grid_matrix b.now) row column }
 {
     let left = a.cell(row, column);
     let right = b.cell(row, column).times_omega(turns);
@@ -68,7 +68,7 @@ fn is_same_up_to(a: &Matrix, b: &Matrix, turns: u8) -> bool
     requires turns { turns < 8 }
     requires size { a.now.qubits ≡ b.now.qubits }
     requires few { a.now.qubits ≤ 3 }
-    ensures { IsTrue result ↔ SameUpTo (2 ^ a.now.qubits) turns (scaled a.now) (scaled b.now) }
+    ensures { IsTrue result ↔ SameUpTo (2 ^ a.now.qubits) turns (grid_matrix a.now) (grid_matrix b.now) }
 {
     let size = 1_usize << a.qubits();
     for place in 0..size * size {
@@ -83,7 +83,7 @@ fn is_same_up_to(a: &Matrix, b: &Matrix, turns: u8) -> bool
 pub(crate) fn is_same(a: &Matrix, b: &Matrix) -> bool
     requires size { a.now.qubits ≡ b.now.qubits }
     requires few { a.now.qubits ≤ 3 }
-    ensures { IsTrue result ↔ ((turns : ℕ) × (turns < 8) × SameUpTo (2 ^ a.now.qubits) turns (scaled a.now) (scaled b.now)) }
+    ensures { IsTrue result ↔ ((turns : ℕ) × (turns < 8) × SameUpTo (2 ^ a.now.qubits) turns (grid_matrix a.now) (grid_matrix b.now)) }
 {
     for turns in 0..8 {
         if is_same_up_to(a, b, turns) {

@@ -143,31 +143,82 @@ fn inverse(gate: Gate) -> Gate {
     }
 }
 
-// Drawn gates; and the same with each followed by another and its inverse, behind a global phase, and one gate changed or none.
-fn drawn_pair(
+// The gates h s s h, t, h s s h, t, whose matrix is ω times the identity: x t x t.
+const TURN: [Gate; 10] = [H(0), S(0), S(0), H(0), T(0), H(0), S(0), S(0), H(0), T(0)];
+
+// Drawn gates on n qubits.
+fn drawn_gates(alloc: Global, state: &mut u32, n: u8) -> Result<Vec<Gate>, AllocError> {
+    let mut gates = Vec::new(alloc);
+    for _ in 0..12 {
+        gates.push(drawn_gate(state, n))?;
+    }
+    Ok(gates)
+}
+
+// The gates behind a drawn number of turns by ω, and every third or so followed by another gate and its inverse.
+fn with_nothing_added(
     alloc: Global,
     state: &mut u32,
     n: u8,
-    changed: Option<usize>,
-) -> Result<(Vec<Gate>, Vec<Gate>), AllocError> {
-    let mut first = Vec::new(alloc);
-    let mut second = Vec::from_slice(
-        alloc,
-        &[T(0), H(0), S(0), S(0), H(0), T(0), H(0), S(0), S(0), H(0)],
-    )?;
-    for place in 0..10 {
-        let gate = drawn_gate(state, n);
-        let between = drawn_gate(state, n);
-        first.push(gate)?;
-        second.push(if changed == Some(place) {
-            between
-        } else {
-            gate
-        })?;
-        second.push(between)?;
-        second.push(inverse(between))?;
+    gates: &[Gate],
+) -> Result<Vec<Gate>, AllocError> {
+    let mut longer = Vec::new(alloc);
+    for _ in 0..draw(state) % 8 {
+        longer.extend_from_slice(&TURN)?;
     }
-    Ok((first, second))
+    for gate in gates {
+        longer.push(*gate)?;
+        if draw(state) % 3 == 0 {
+            let between = drawn_gate(state, n);
+            longer.push(between)?;
+            longer.push(inverse(between))?;
+        }
+    }
+    Ok(longer)
+}
+
+// The Pauli operator on one qubit with which a gate commutes there. An h commutes with none of them.
+#[derive(Clone, Copy, PartialEq, Eq)]
+enum Axis {
+    X,
+    Z,
+    Neither,
+}
+
+// How a gate acts on a qubit, where it does.
+fn axis_of(gate: Gate, qubit: u8) -> Option<Axis> {
+    match gate {
+        H(q) if q == qubit => Some(Axis::Neither),
+        S(q) | Sdg(q) | T(q) | Tdg(q) if q == qubit => Some(Axis::Z),
+        Cx(control, _) if control == qubit => Some(Axis::Z),
+        Cx(_, target) if target == qubit => Some(Axis::X),
+        _ => None,
+    }
+}
+
+// Whether the gates commute, since they act alike on each qubit that both act on.
+fn commute(a: Gate, b: Gate) -> bool {
+    for qubit in 0..3 {
+        if let (Some(x), Some(y)) = (axis_of(a, qubit), axis_of(b, qubit)) {
+            if x != y {
+                return false;
+            }
+        }
+    }
+    true
+}
+
+// Exchanges about half of the neighbours that commute, and counts those exchanges that change the list.
+fn exchange_neighbours(state: &mut u32, gates: &mut [Gate]) -> u32 {
+    let mut exchanges = 0_u32;
+    for place in 1..gates.len() {
+        let (left, right) = (gates[place - 1], gates[place]);
+        if left != right && commute(left, right) && draw(state) % 2 == 0 {
+            gates.swap(place - 1, place);
+            exchanges = exchanges.saturating_add(1);
+        }
+    }
+    exchanges
 }
 
 // The matrix of the gates.
@@ -238,28 +289,36 @@ fn are_plainly_same(
     Ok(false)
 }
 
+// Drawn gates, and the same with nothing added and neighbours exchanged: half of the pairs unchanged, and half with one gate drawn anew.
 #[test]
 fn pairs_from_numbers(rt: HostRuntime) -> Result<(), Fail> {
     let alloc = rt.alloc();
     let mut state = 1;
+    let mut exchanges = 0_u32;
     let mut counts = [0_u32; 2];
-    for number in 0..60_usize {
+    for number in 0..200_usize {
         let n = (number % 3 + 1) as u8;
-        let changed = if number % 2 == 0 {
-            None
-        } else {
-            Some(number % 10)
-        };
-        let (a, b) = drawn_pair(alloc, &mut state, n, changed)?;
+        let a = drawn_gates(alloc, &mut state, n)?;
+        let mut b = with_nothing_added(alloc, &mut state, n, &a)?;
+        let is_changed = number % 2 == 1;
+        if is_changed {
+            let place = number % 12;
+            assert!(rt; place < b.len());
+            b[place] = drawn_gate(&mut state, n);
+        }
+        for _ in 0..3 {
+            exchanges = exchanges.saturating_add(exchange_neighbours(&mut state, &mut b));
+        }
         let want = are_plainly_same(&rt, alloc, n, &a, &b)?;
         assert_eq!(rt;
             answer(&rt, alloc, (n, &a), (n, &b)),
             Ok(want),
             "{a:?} and {b:?}"
         );
-        assert!(rt; want || changed.is_some());
+        assert!(rt; want || is_changed, "{a:?} and {b:?}");
         counts[usize::from(want)] = counts[usize::from(want)].saturating_add(1);
     }
-    assert!(rt; counts[0] >= 20 && counts[1] >= 30, "{counts:?}");
+    assert!(rt; counts[0] >= 60 && counts[1] >= 100, "{counts:?}");
+    assert!(rt; exchanges >= 1000, "{exchanges}");
     Ok(())
 }

@@ -1,4 +1,4 @@
--- What a level merely keeps, it keeps: each part has one proof, or a truth value tells it.
+-- Lemmas for the crates above: what a level merely keeps, it keeps: each part has one proof, or a truth value tells it.
 use Rattle.std.proofs.Common.{◌≡◌, ◌≢◌, ℕ, ◌<◌, Bool, true, not, ◌&&◌, ◌==◌, Decides, List, Contains, Option, None, Some, get_or, refl, sym, subst}
 use Rattle.std.proofs.Props.{props}
 use mathlib.Core.HLevel.{⊥_prop}

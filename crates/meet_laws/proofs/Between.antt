@@ -9,7 +9,7 @@ use Rattle.tc_ring.proofs.Surds.{surds_laws}
 use Rattle.tc_circuit.specs.Gate as circuit
 use Rattle.tc_circuit.specs.Model.{IsCircuit, t_count_of}
 use Rattle.tc_circuit.specs.declared.circuit.Gate.{Gate}
-use Rattle.channel_rep.specs.Gates.{Fits, positive}
+use Rattle.channel_rep.specs.Gates.{GateFits, positive}
 use Rattle.channel_rep.specs.Products.{table_product, identity_table}
 use Rattle.channel_rep.specs.Tables.{SurdTable, ScaledTable, IsStep, built, built_on, SameTable, IsCircuitChannel}
 use Rattle.channel_rep.specs.Words.{IsWord}
@@ -59,10 +59,10 @@ module _ (n : ℕ) (some : 0 < n) (few : n ≤ 3) where
 
   -- ---- Clifford gates and their inverses
   -- the inverses in reverse order and then the gates have the identity's channel
-  undone_built : (v : List ChannelGate) → AllByRecursion (Fits n) v → SameTable n (built n (steps_of (as_gates (undone v ++ v)))) identity_table
+  undone_built : (v : List ChannelGate) → AllByRecursion (GateFits n) v → SameTable n (built n (steps_of (as_gates (undone v ++ v)))) identity_table
   undone_built v fits =
       let gates = undone v ++ v in
-      let all = all-append (Fits n) (undone v) v (undone_fits n v fits) fits in
+      let all = all-append (GateFits n) (undone v) v (undone_fits n v fits) fits in
       same_of n _ identity_table (gates_exponent n gates (built n []))
       (identity_from_entries n (built n (steps_of (as_gates gates))) (λ q l.
       subst (HasEntry n (built n (steps_of (as_gates gates))) q)
@@ -70,7 +70,7 @@ module _ (n : ℕ) (some : 0 < n) (few : n ≤ 3) where
       (entry_built n some few gates all q l)))
 
   -- so does their product
-  gates_undone : (v : List ChannelGate) → AllByRecursion (Fits n) v → SameTable n (table_product n (built n (steps_of (as_gates v))) (built n (steps_of (as_gates (undone v))))) identity_table
+  gates_undone : (v : List ChannelGate) → AllByRecursion (GateFits n) v → SameTable n (table_product n (built n (steps_of (as_gates v))) (built n (steps_of (as_gates (undone v))))) identity_table
   gates_undone v fits =
       same_table_trans n _ (built n (steps_of (as_gates (undone v) ++ as_gates v))) _ (same_table_sym n _ _ (circuits_joined n some few (as_gates (undone v)) (as_gates v)))
       (subst (λ (c : List Gate). SameTable n (built n (steps_of c)) identity_table) (as_gates-append (undone v) v) (undone_built v fits))

@@ -9,7 +9,7 @@ use Rattle.channel_rep.specs.Cells.{ChannelGrid, HasOddCell, IsReduced, scaled, 
 use Rattle.channel_rep.specs.Tables.{ScaledTable, SameTable}
 use Rattle.level_laws.specs.Levels.{removed}
 use Rattle.coset_label.specs.Decided.{at_all, at_some, same_surd}
-use Rattle.meet_middle.specs.Kept.{same_table, is_reduced, IsKept, is_kept}
+use Rattle.meet_middle.specs.Kept.{same_table, is_reduced, IsTargetWithout, is_target_without}
 
 surd_decided : (x y : Surd) → Decides (same_surd x y) (x ≡ y)
 surd_decided x y = Decides-like (same_surd x y) (λ both. surds_same {x = x} {y = y} both.0 both.1) (λ e. (ap (λ s. s.a) e, ap (λ s. s.b) e)) (Decides-and _ _ (Decides-int_eq x.a y.a) (Decides-int_eq x.b y.b))
@@ -40,8 +40,8 @@ reduced_decided m =
     (Decides-below_or some HasOdd (at_some some) one refl (λ _. refl) size) in
     Decides-or (m.exponent == 0) (at_some some size) (Decides-eqb m.exponent 0) odd
 
-pub kept_decided : (n : ℕ) (target : ScaledTable) (word : List ℕ) (m : ChannelGrid) → Decides (is_kept n target word m) (IsKept n target word m)
-unfolding is_kept
+pub kept_decided : (n : ℕ) (target : ScaledTable) (word : List ℕ) (m : ChannelGrid) → Decides (is_target_without n target word m) (IsTargetWithout n target word m)
+unfolding is_target_without
 kept_decided n target word m =
     let same = same_table n (scaled m) (removed n target word) in
     Decides-like (m.qubits == n && (same && is_reduced m)) (λ h. record { qubits = h.0; table = h.1.0; reduced = h.1.1 }) (λ h. (h.qubits, (h.table, h.reduced)))

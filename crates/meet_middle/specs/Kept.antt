@@ -20,19 +20,19 @@ unfoldable pub is_reduced : ChannelGrid → Bool
 is_reduced m = m.exponent == 0 || at_some (λ row. at_some (λ column. nat_abs (table_of m row column).a % 2 == 1) (4 ^ m.qubits)) (4 ^ m.qubits)
 
 -- a channel is the target without a word, with the least exponent
-pub record IsKept (n : ℕ) (target : ScaledTable) (word : List ℕ) (m : ChannelGrid) : Type 0 where
+pub record IsTargetWithout (n : ℕ) (target : ScaledTable) (word : List ℕ) (m : ChannelGrid) : Type 0 where
   pub qubits : m.qubits ≡ n
   pub table : SameTable n (scaled m) (removed n target word)
   pub reduced : IsReduced m
 
 -- whether it is
-unfoldable pub is_kept : ℕ → ScaledTable → List ℕ → ChannelGrid → Bool
-is_kept n target word m = m.qubits == n && (same_table n (scaled m) (removed n target word) && is_reduced m)
+unfoldable pub is_target_without : ℕ → ScaledTable → List ℕ → ChannelGrid → Bool
+is_target_without n target word m = m.qubits == n && (same_table n (scaled m) (removed n target word) && is_reduced m)
 
 -- whether a channel is the target without the word of a number, where a number is given
 abbrev pub keeps : ℕ → List (List ℕ) → ScaledTable → Option ℕ → ChannelGrid → Bool
 keeps n words target None m = true
-keeps n words target (Some number) m = is_kept n target (slice_index_or words number []) m
+keeps n words target (Some number) m = is_target_without n target (slice_index_or words number []) m
 
 -- what holds wherever a front is asked: the target is a circuit's channel, whose exponent is at most the letters of the longest
 -- words that are looked for, and the level is one of words of half the letters

@@ -7,7 +7,7 @@ ghost use Rattle.level_laws.specs.Levels.{removed};
 ghost use Rattle.level_store.specs.InOrder.{IsLevelOf};
 ghost use Rattle.level_store.specs.Stored.{Finds, letters_in, words_of};
 ghost use Rattle.meet_middle.specs.Fronts.{front_of, fronts_of};
-ghost use Rattle.meet_middle.specs.Kept.{IsAsked, IsKept, keeps};
+ghost use Rattle.meet_middle.specs.Kept.{IsAsked, IsTargetWithout, keeps};
 ghost use Rattle.meet_middle.specs.Halves.{middle_letters};
 
 use crate::fronts::front;
@@ -68,7 +68,7 @@ impl<const N: u8> Probe<N> {
         requires keeps { keeps N (letters_in level.now) (scaled target.now) self.old.number self.old.kept ≡ true }
         ensures fit { ⟦<Probe<N> as Local>⟧.fit self.new ≡ true }
         ensures number { self.new.number ≡ Some number }
-        ensures kept { IsKept N (scaled target.now) (slice_index_or (letters_in level.now) number []) self.new.kept }
+        ensures kept { IsTargetWithout N (scaled target.now) (slice_index_or (letters_in level.now) number []) self.new.kept }
     {
         if self.number == Some(number) {
             return;

@@ -1,4 +1,4 @@
--- Laws of two and three letters, each computed for all of them, and the letters of a code.
+-- Lemmas for the crates above: laws of two and three letters, each computed for all of them, and the letters of a code.
 use Rattle.std.proofs.Common.{◌≡◌, ℕ, ◌+◌, ◌*◌, ◌/◌, ◌%◌, ◌^◌, ◌<◌, bit_xor, T, eqb, eqb→eq, ap, sym, ◌∙◌, arith, mod-lt, lit<}
 use Rattle.std.proofs.lemmas.Nat.{xor_shr, xor_mod, mul-pow, pow-add}
 use Rattle.pauli_basis.specs.Letters.{letter_of, letter_turns, letter_clash}

@@ -1,4 +1,4 @@
--- The letters of two codes compared all at once, by masks.
+-- Lemmas for the crates above: the letters of two codes compared all at once, by masks.
 use Rattle.std.proofs.Common.{◌≡◌, ℕ, ◌+◌, ◌*◌, ◌-◌, ◌/◌, ◌%◌, ◌^◌, ◌<◌, ◌≤◌, ◌==◌, bit_and, bit_or, bit_xor, Bool, true, false, T, eqb, eqb→eq, refl, ap, sym, ◌∙◌, subst, arith, lit<}
 use Rattle.std.proofs.Math.Nat.{pow-le-pow_right}
 use Rattle.std.specs.Prelude.{count_ones}

@@ -1,4 +1,4 @@
--- Laws of products of Paulis, on any number of qubits.
+-- Lemmas for the crates above: laws of products of Paulis, on any number of qubits.
 use Rattle.std.proofs.Common.{◌≡◌, ◌≢◌, ◌↔◌, ℕ, zero, suc, ◌+◌, ◌*◌, ◌/◌, ◌%◌, ◌^◌, ◌<◌, ◌==◌, Bool, true, false, not, bit_xor, refl, ap, sym, ◌∙◌, subst, arith, pow-suc, zero-add, suc-add}
 use Rattle.std.specs.Int.Bits.{xor_self, xor_assoc, xor_zero_l, xor_zero_r}
 use Rattle.std.proofs.lemmas.Bool.{eqb-true, eqb-false, eq-eqb, ne_eqb}

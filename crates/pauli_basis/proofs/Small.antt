@@ -1,4 +1,4 @@
--- Facts about all small numbers, by computing.
+-- Lemmas for the crates above: facts about all small numbers, by computing.
 use Rattle.std.proofs.Common.{ℕ, zero, suc, ◌<◌, Bool, true, false, ◌&&◌, T, sym, arith, subst, inl, inr}
 use Rattle.std.proofs.lemmas.Bool.{cases_eq}
 

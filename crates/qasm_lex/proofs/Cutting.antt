@@ -1,4 +1,4 @@
--- The tokens of a text, one after another.
+-- Lemmas for the crates above: the tokens of a text, one after another.
 use Rattle.std.proofs.Common.{◌≡◌, ℕ, zero, suc, ◌+◌, ◌-◌, ◌<◌, ◌≤◌, List, [], ◌∷◌, ◌++◌, length, take, drop, Option, Some, None, arith, ap, ◌∙◌, sym, refl, subst, ◌⊎◌, inl, inr, ⊎_elim, length-drop, append_assoc}
 use Rattle.qasm_lex.specs.declared.token.Kind.{Kind}
 use Rattle.qasm_lex.specs.declared.token.Token.{Token}

@@ -1,4 +1,4 @@
--- `front` gives the longest token at the front. Crates above cite this module.
+-- Lemmas for the crates above: `front` gives the longest token at the front.
 use Rattle.std.proofs.Common.{◌≡◌, ℕ, zero, suc, ◌+◌, ◌<◌, ◌≤◌, Bool, true, false, cond, ◌||◌, ◌&&◌, ◌==◌, List, [], ◌∷◌, length, take, get_or, Option, Some, None, arith, ap, ◌∙◌, sym, refl, subst, ⊎_elim, ltb, length-take}
 use Rattle.std.specs.Prelude.{MatchOption, option_and_then}
 use Rattle.std.specs.List.{list_any, list_all, prefix_len}

@@ -1,4 +1,4 @@
--- Z[ω] is a commutative ring, and identities over it.
+-- Lemmas for the crates above: Z[ω] is a commutative ring, and identities over it.
 use mathlib.Core.Path.{◌≡◌, refl, sym, ap, ◌∙◌}
 use mathlib.Core.List.{List, [], ◌∷◌}
 use Prim.Native.Nat.{ℕ, zero, suc, ◌+◌}

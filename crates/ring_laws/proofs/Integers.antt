@@ -1,4 +1,4 @@
--- The whole numbers as a ring: the laws that `lib.IntN` lacks, and the record.
+-- Lemmas for the crates above: the whole numbers as a ring: the laws that `lib.IntN` lacks, and the record.
 use mathlib.Core.Path.{◌≡◌, refl, ap}
 use Prim.Native.Nat.{◌*◌}
 use native.Mathlib.Omega.{arith}

@@ -1,4 +1,4 @@
--- Polynomial identities with no expression written out: `search reads` reads the expressions off the goal.
+-- Lemmas for the crates above: polynomial identities with no expression written out: `search reads` reads the expressions off the goal.
 --     ring L xs (search reads depth 30 parts 0 fits 10000) tt : a ≡ b
 -- L is the ring's laws, and xs the list of the goal's atoms. An error `expected ⊥` at `tt` says that the identity is false; one at `search` that an atom is missing from xs, or that the goal is too long.
 use mathlib.Core.Path.{◌≡◌, refl, sym, ap, ◌∙◌}

@@ -1,4 +1,4 @@
--- What follows from the laws of a commutative ring, and the laws of powers.
+-- Lemmas for the crates above: what follows from the laws of a commutative ring, and the laws of powers.
 use mathlib.Core.Path.{◌≡◌, refl, sym, ap, ◌∙◌}
 use Prim.Native.Nat.{ℕ, zero, suc, ◌+◌}
 use native.Mathlib.Nat.{zero-add, suc-add}

@@ -1,4 +1,4 @@
--- Sums of four squares of whole numbers.
+-- Lemmas for the crates above: sums of four squares of whole numbers.
 use mathlib.Core.Path.{◌≡◌, refl}
 use Prim.Native.Nat.{ℕ, zero, suc, ◌*◌}
 use native.Mathlib.Omega.{arith}

@@ -1,4 +1,4 @@
--- Finite sums over index functions, and matrices as functions of two indices.
+-- Lemmas for the crates above: finite sums over index functions, and matrices as functions of two indices.
 use mathlib.Core.Path.{◌≡◌, refl, sym, ap, ◌∙◌, subst}
 use mathlib.Core.Bool.{Bool, true, false, cond}
 use mathlib.Core.List.{[], ◌∷◌}

@@ -6,8 +6,8 @@ use Rattle.steal_sweep.specs.declared.best.Best.{Best}
 use Rattle.steal_sweep.specs.declared.best.BestSeat.{BestSeat}
 
 -- the table that the best word lies in
-abbrev pub table_of : Best → TableId
-table_of b = b.table.shared.table_id
+abbrev pub table_id_of : Best → TableId
+table_id_of b = b.table.shared.table_id
 
 -- the table of a seat
 abbrev pub seat_table : BestSeat → TableId
@@ -19,7 +19,7 @@ known_by s = s.seat.me.0
 
 -- the seat is one of this word
 abbrev pub IsSeatOf : Best → BestSeat → Type 0
-IsSeatOf b s = seat_table s ≡ table_of b
+IsSeatOf b s = seat_table s ≡ table_id_of b
 
 -- these are all the seats of the word, and none has put a position
 pub record AreNewSeatsOf (b : Best) (seats : List BestSeat) : Type 0 where

@@ -34,7 +34,7 @@ impl BestSeat {
 }
 
 impl Best {
-    ghost use Rattle.steal_sweep.specs.Seats.{table_of, seat_table, known_by, IsSeatOf, AreNewSeatsOf};
+    ghost use Rattle.steal_sweep.specs.Seats.{table_id_of, seat_table, known_by, IsSeatOf, AreNewSeatsOf};
 
     /// A word and its one seat, with all eight parts.
     fn alone(alloc: Global) -> Result<(Best, BestSeat), AllocError>

@@ -13,7 +13,7 @@ use Rattle.pauli_basis.specs.Products.{turns}
 use Rattle.pauli_basis.proofs.Small.{all, all_at, and_left, and_right}
 use Rattle.channel_rep.specs.declared.gate.ChannelGate.{ChannelGate}
 use Rattle.channel_rep.specs.declared.gate.ChannelGate.TheVariants.{H, S, Sdg, Cx}
-use Rattle.channel_rep.specs.Gates.{Fits, image}
+use Rattle.channel_rep.specs.Gates.{GateFits, image}
 use Rattle.tc_bridge.specs.Rotation.{axis, rotation}
 use Rattle.tc_bridge.specs.Steps.{z_on}
 use Rattle.tc_bridge.specs.Block.{opening, highest, conjugated_gates, block}
@@ -58,13 +58,13 @@ opens_3 = tt
 not_equal : (c t : ℕ) → Holds (not (eqb c t)) → c ≢ t
 not_equal c t h e = T_not (eqb c t) h (subst (λ (x : ℕ). Holds (eqb c x)) e (eqb_refl c))
 
-fits_is : (n : ℕ) (g : ChannelGate) → Holds (fits_test n g) → Fits n g
+fits_is : (n : ℕ) (g : ChannelGate) → Holds (fits_test n g) → GateFits n g
 fits_is n (H q) h = ltb→lt q n h
 fits_is n (S q) h = ltb→lt q n h
 fits_is n (Sdg q) h = ltb→lt q n h
 fits_is n (Cx c t) h = (ltb→lt c n (and_left (ltb c n) _ h), ltb→lt t n (and_left (ltb t n) _ (and_right (ltb c n) _ h)), not_equal c t (and_right (ltb t n) _ (and_right (ltb c n) _ h)))
 
-all_fit : (n : ℕ) (gates : List ChannelGate) → Holds (all_fit_test n gates) → AllByRecursion (Fits n) gates
+all_fit : (n : ℕ) (gates : List ChannelGate) → Holds (all_fit_test n gates) → AllByRecursion (GateFits n) gates
 all_fit n [] h = tt
 all_fit n (g ∷ gates) h = (fits_is n g (and_left (fits_test n g) _ h), all_fit n gates (and_right (fits_test n g) _ h))
 
@@ -76,7 +76,7 @@ not_true false h = refl
 pub record Opening (n p : ℕ) : Type 0 where
   pub is : images n (opening n p) (record { code = p; is_negative = false }) ≡ record { code = z_on (highest n p); is_negative = false }
   pub below : highest n p < n
-  pub fits : AllByRecursion (Fits n) (opening n p)
+  pub fits : AllByRecursion (GateFits n) (opening n p)
   pub short : length (block n p) ≤ 17
 
 -- t is R(Z)

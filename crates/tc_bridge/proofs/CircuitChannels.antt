@@ -18,7 +18,7 @@ use Rattle.tc_circuit.specs.declared.circuit.Gate.TheVariants.{H, S, Sdg, T, Tdg
 use Rattle.pauli_basis.proofs.Small.{all, all_at, all_at2, and_left, and_right}
 use Rattle.tc_circuit.proofs.Flips.{sizes}
 use Rattle.channel_rep.specs.declared.gate.ChannelGate.{ChannelGate}
-use Rattle.channel_rep.specs.Gates.{Fits, image}
+use Rattle.channel_rep.specs.Gates.{GateFits, image}
 use Rattle.channel_rep.specs.Tables as channel
 use Rattle.channel_rep.specs.Tables.{ScaledTable, IsStep, step_table, step_exponent, stepped, built_on, built, rotation_table, IsCircuitChannel}
 use Rattle.tc_bridge.specs.Pauli.{imaginary, letter_matrix, pauli_matrix, sign}
@@ -35,7 +35,7 @@ use Rattle.tc_bridge.proofs.Rotations.{turned_axis, rotation_channel}
 use Rattle.tc_bridge.proofs.GateTerms.{gate_roots, gate_sum, image-lt, terms_conjugate}
 
 -- ---- Clifford gates
-module _ (n : ℕ) (some : 0 < n) (few : n ≤ 3) (g : ChannelGate) (fits : Fits n g) where
+module _ (n : ℕ) (some : 0 < n) (few : n ≤ 3) (g : ChannelGate) (fits : GateFits n g) where
   -- g·Q is its image times g
   pub gate_conjugates : (q : ℕ) → q < 4 ^ n → let s = image n g q in
       Alike cyclotomics (2 ^ n) (product cyclotomics (2 ^ n) (gate_table (as_gate g)) (pauli_matrix n q)) (multiple cyclotomics (sign s.is_negative) (product cyclotomics (2 ^ n) (pauli_matrix n s.code) (gate_table (as_gate g))))

@@ -8,7 +8,7 @@ use Rattle.pauli_basis.specs.Products.{Signed}
 use Rattle.channel_rep.specs.declared.gate.ChannelGate.{ChannelGate}
 use Rattle.channel_rep.specs.declared.gate.ChannelGate.TheVariants.{H, S, Sdg, Cx}
 use Rattle.channel_rep.specs.Cells.{IsUnit, HasOneUnit}
-use Rattle.channel_rep.specs.Gates.{Fits, image, positive}
+use Rattle.channel_rep.specs.Gates.{GateFits, image, positive}
 use Rattle.channel_rep.specs.Rows.{moved}
 use Rattle.channel_rep.specs.Tables.{ScaledTable, by_gate, signed, turned_over, stepped, built_on, built}
 use Rattle.channel_rep.proofs.Images.{image-lt, image-image}
@@ -27,7 +27,7 @@ pub record HasEntry (n : ℕ) (c : ScaledTable) (column : ℕ) (s : Signed) : Ty
 
 module _ (n : ℕ) (some : 0 < n) (few : n ≤ 3) where
   -- a gate moves the entry to the image and multiplies the signs
-  entry_gate : (g : ChannelGate) → Fits n g → (c : ScaledTable) (q : ℕ) → q < 4 ^ n → (s : Signed) → HasEntry n c q s → HasEntry n (stepped n (by_gate g) c) q (conjugated n g s)
+  entry_gate : (g : ChannelGate) → GateFits n g → (c : ScaledTable) (q : ℕ) → q < 4 ^ n → (s : Signed) → HasEntry n c q s → HasEntry n (stepped n (by_gate g) c) q (conjugated n g s)
   unfolding moved
   entry_gate g fits c q l s h = record {
     below = image-lt n some few g fits s.code h.below;
@@ -49,7 +49,7 @@ module _ (n : ℕ) (some : 0 < n) (few : n ≤ 3) where
   }
 
   -- gates behind a table
-  pub entry_gates : (gates : List ChannelGate) → AllByRecursion (Fits n) gates → (c : ScaledTable) (q : ℕ) → q < 4 ^ n → (s : Signed) → HasEntry n c q s
+  pub entry_gates : (gates : List ChannelGate) → AllByRecursion (GateFits n) gates → (c : ScaledTable) (q : ℕ) → q < 4 ^ n → (s : Signed) → HasEntry n c q s
       → HasEntry n (built_on n c (steps_of (as_gates gates))) q (conjugated_by n gates s)
   entry_gates [] fits c q l s h = h
   entry_gates (H j ∷ gates) fits c q l s h = entry_gates gates fits.1 _ q l _ (entry_gate (H j) fits.0 c q l s h)
@@ -63,7 +63,7 @@ module _ (n : ℕ) (some : 0 < n) (few : n ≤ 3) where
   positive_entry q l = record { below = l; is = λ row h. refl }
 
   -- gates by themselves
-  pub entry_built : (gates : List ChannelGate) → AllByRecursion (Fits n) gates → (q : ℕ) → q < 4 ^ n → HasEntry n (built n (steps_of (as_gates gates))) q (conjugated_by n gates (positive q))
+  pub entry_built : (gates : List ChannelGate) → AllByRecursion (GateFits n) gates → (q : ℕ) → q < 4 ^ n → HasEntry n (built n (steps_of (as_gates gates))) q (conjugated_by n gates (positive q))
   entry_built gates fits q l = entry_gates gates fits (built n []) q l (positive q) (positive_entry q l)
 
 -- nothing more
@@ -97,7 +97,7 @@ at_entry n c q s h row l e = unit_of s.is_negative _ (h.is row l ∙ ap (signed 
 off_entry : (n : ℕ) (c : ScaledTable) (q : ℕ) (s : Signed) (h : HasEntry n c q s) (row : ℕ) → row < 4 ^ n → row ≢ s.code → c.table row q ≡ zero_surd
 off_entry n c q s h row l d = h.is row l ∙ ap (signed s.is_negative) (zero_at row s.code d) ∙ signed-zero s.is_negative
 
-module _ (n : ℕ) (some : 0 < n) (few : n ≤ 3) (gates : List ChannelGate) (fits : AllByRecursion (Fits n) gates) where
+module _ (n : ℕ) (some : 0 < n) (few : n ≤ 3) (gates : List ChannelGate) (fits : AllByRecursion (GateFits n) gates) where
   -- the table that the gates build
   abbrev m : ScaledTable
   m = built n (steps_of (as_gates gates))

@@ -7,7 +7,7 @@ use Rattle.pauli_basis.specs.Products.{Signed, turns}
 use Rattle.pauli_basis.proofs.Small.{all, all_at, and_left, and_right}
 use Rattle.channel_rep.specs.declared.gate.ChannelGate.{ChannelGate}
 use Rattle.channel_rep.specs.declared.gate.ChannelGate.TheVariants.{H, S, Sdg, Cx}
-use Rattle.channel_rep.specs.Gates.{Fits, image}
+use Rattle.channel_rep.specs.Gates.{GateFits, image}
 use Rattle.channel_rep.specs.Tables.{turned_over}
 use Rattle.channel_rep.proofs.Images.{image-lt, beq_is}
 use Rattle.channel_rep.proofs.Conjugated.{conjugated_by-append}
@@ -51,7 +51,7 @@ inverse-inverse (Cx c t) = refl
 
 module _ (n : ℕ) (some : 0 < n) (few : n ≤ 3) where
   -- the test at a gate and a code
-  turned_back : (g : ChannelGate) → Fits n g → (p : ℕ) → p < 4 ^ n → Holds (turns_back n g p)
+  turned_back : (g : ChannelGate) → GateFits n g → (p : ℕ) → p < 4 ^ n → Holds (turns_back n g p)
   turned_back g fits p l = all_at (4 ^ n) (turns_back n g) (each_clifford all_turn_back back_1 back_2 back_3 n some few g fits) p l
 
   -- two signs that are the same cancel
@@ -64,7 +64,7 @@ module _ (n : ℕ) (some : 0 < n) (few : n ≤ 3) where
   cancel_signs a false true e = absurd cc
 
   -- a gate and then its inverse
-  pub conjugated-inverse : (g : ChannelGate) → Fits n g → (s : Signed) → s.code < 4 ^ n → conjugated n (inverse_gate g) (conjugated n g s) ≡ s
+  pub conjugated-inverse : (g : ChannelGate) → GateFits n g → (s : Signed) → s.code < 4 ^ n → conjugated n (inverse_gate g) (conjugated n g s) ≡ s
   conjugated-inverse g fits s l =
       let h = turned_back g fits s.code l in
       let u = image n g s.code in
@@ -75,12 +75,12 @@ module _ (n : ℕ) (some : 0 < n) (few : n ≤ 3) where
       }
 
   -- conjugates are codes of as many qubits
-  pub conjugated_by-lt : (gates : List ChannelGate) → AllByRecursion (Fits n) gates → (s : Signed) → s.code < 4 ^ n → (conjugated_by n gates s).code < 4 ^ n
+  pub conjugated_by-lt : (gates : List ChannelGate) → AllByRecursion (GateFits n) gates → (s : Signed) → s.code < 4 ^ n → (conjugated_by n gates s).code < 4 ^ n
   conjugated_by-lt [] fits s l = l
   conjugated_by-lt (g ∷ gates) fits s l = conjugated_by-lt gates fits.1 (conjugated n g s) (image-lt n some few g fits.0 s.code l)
 
   -- gates and then their inverses in reverse order
-  pub conjugated_by-undone : (gates : List ChannelGate) → AllByRecursion (Fits n) gates → (s : Signed) → s.code < 4 ^ n → conjugated_by n (undone gates) (conjugated_by n gates s) ≡ s
+  pub conjugated_by-undone : (gates : List ChannelGate) → AllByRecursion (GateFits n) gates → (s : Signed) → s.code < 4 ^ n → conjugated_by n (undone gates) (conjugated_by n gates s) ≡ s
   conjugated_by-undone [] fits s l = refl
   conjugated_by-undone (g ∷ gates) fits s l =
       conjugated_by-append n (undone gates) (inverse_gate g ∷ []) (conjugated_by n gates (conjugated n g s))
@@ -88,12 +88,12 @@ module _ (n : ℕ) (some : 0 < n) (few : n ≤ 3) where
       ∙ conjugated-inverse g fits.0 s l
 
   -- and the other way round
-  inverse-conjugated : (g : ChannelGate) → Fits n g → (s : Signed) → s.code < 4 ^ n → conjugated n g (conjugated n (inverse_gate g) s) ≡ s
+  inverse-conjugated : (g : ChannelGate) → GateFits n g → (s : Signed) → s.code < 4 ^ n → conjugated n g (conjugated n (inverse_gate g) s) ≡ s
   inverse-conjugated g fits s l =
       ap (λ (k : ChannelGate). conjugated n k (conjugated n (inverse_gate g) s)) (sym (inverse-inverse g)) ∙ conjugated-inverse (inverse_gate g) (inverse_fits n g fits) s l
 
   -- the inverses in reverse order and then the gates
-  pub undone-conjugated_by : (gates : List ChannelGate) → AllByRecursion (Fits n) gates → (s : Signed) → s.code < 4 ^ n → conjugated_by n gates (conjugated_by n (undone gates) s) ≡ s
+  pub undone-conjugated_by : (gates : List ChannelGate) → AllByRecursion (GateFits n) gates → (s : Signed) → s.code < 4 ^ n → conjugated_by n gates (conjugated_by n (undone gates) s) ≡ s
   undone-conjugated_by [] fits s l = refl
   undone-conjugated_by (g ∷ gates) fits s l =
       let t = conjugated_by n (undone gates) s in

@@ -16,7 +16,7 @@ use Rattle.pauli_basis.specs.Products.{Signed}
 use Rattle.pauli_basis.proofs.Small.{all, all_at2}
 use Rattle.channel_rep.specs.declared.gate.ChannelGate.{ChannelGate}
 use Rattle.channel_rep.specs.declared.gate.ChannelGate.TheVariants.{H, S, Sdg, Cx}
-use Rattle.channel_rep.specs.Gates.{Fits, image}
+use Rattle.channel_rep.specs.Gates.{GateFits, image}
 use Rattle.channel_rep.specs.Tables.{turned_over}
 use Rattle.tc_bridge.specs.Pauli.{sign}
 use Rattle.tc_bridge.specs.Rotation.{axis, scaled_product}
@@ -61,7 +61,7 @@ inverse_exponent (Sdg q) = refl
 inverse_exponent (Cx c t) = refl
 
 -- a Clifford gate that fits is a gate that fits
-pub gate_fits : (n : ℕ) (g : ChannelGate) → Fits n g → circuit.Fits n (as_gate g)
+pub gate_fits : (n : ℕ) (g : ChannelGate) → GateFits n g → circuit.Fits n (as_gate g)
 gate_fits n (H q) l = l
 gate_fits n (S q) l = l
 gate_fits n (Sdg q) l = l
@@ -69,7 +69,7 @@ gate_fits n (Cx c t) l = l
 
 module _ (n : ℕ) (some : 0 < n) (few : n ≤ 3) where
   -- the inverse undoes the gate
-  pub inverse_is : (g : ChannelGate) → Fits n g → Equal n (scaled_product n (gate_matrix (as_gate (inverse_gate g))) (gate_matrix (as_gate g))) one
+  pub inverse_is : (g : ChannelGate) → GateFits n g → Equal n (scaled_product n (gate_matrix (as_gate (inverse_gate g))) (gate_matrix (as_gate g))) one
   unfolding adjoint
   inverse_is g fits = record {
     is =
@@ -80,7 +80,7 @@ module _ (n : ℕ) (some : 0 < n) (few : n ≤ 3) where
   }
 
 -- the inverse fits where the gate does
-pub inverse_fits : (n : ℕ) (g : ChannelGate) → Fits n g → Fits n (inverse_gate g)
+pub inverse_fits : (n : ℕ) (g : ChannelGate) → GateFits n g → GateFits n (inverse_gate g)
 inverse_fits n (H q) l = l
 inverse_fits n (S q) l = l
 inverse_fits n (Sdg q) l = l
@@ -92,9 +92,9 @@ all-append P [] d h g = g
 all-append P (x ∷ c) d h g = (h.0, all-append P c d h.1 g)
 
 -- gates that are undone fit
-pub undone_fits : (n : ℕ) (gates : List ChannelGate) → AllByRecursion (Fits n) gates → AllByRecursion (Fits n) (undone gates)
+pub undone_fits : (n : ℕ) (gates : List ChannelGate) → AllByRecursion (GateFits n) gates → AllByRecursion (GateFits n) (undone gates)
 undone_fits n [] h = tt
-undone_fits n (g ∷ gates) h = all-append (Fits n) (undone gates) (inverse_gate g ∷ []) (undone_fits n gates h.1) (inverse_fits n g h.0, tt)
+undone_fits n (g ∷ gates) h = all-append (GateFits n) (undone gates) (inverse_gate g ∷ []) (undone_fits n gates h.1) (inverse_fits n g h.0, tt)
 
 -- ---- a gate past a·I + b·P
 abbrev pub signed_axis : ℕ → Zω → Zω → Signed → ℕ → ScaledMatrix
@@ -111,7 +111,7 @@ images n (g ∷ gates) s = images n gates (signed_image n g s)
 
 module _ (n : ℕ) (some : 0 < n) (few : n ≤ 3) where
   -- g·(a·I ± b·P) is (a·I ± b·g·P·g†)·g
-  pub gate_axis : (g : ChannelGate) → Fits n g → (a b : Zω) (s : Signed) (j : ℕ) → s.code < 4 ^ n
+  pub gate_axis : (g : ChannelGate) → GateFits n g → (a b : Zω) (s : Signed) (j : ℕ) → s.code < 4 ^ n
       → Equal n (scaled_product n (gate_matrix (as_gate g)) (signed_axis n a b s j)) (scaled_product n (signed_axis n a b (signed_image n g s) j) (gate_matrix (as_gate g)))
   gate_axis g fits a b s j l =
       let t = image n g s.code in
@@ -140,7 +140,7 @@ plain_axis n a b p j = subst (λ (x : Zω). Equal n (record { table = axis n a b
 
 module _ (n : ℕ) (some : 0 < n) (few : n ≤ 3) where
   -- where the Clifford gates take a Pauli to that of the center, the whole is the center with the first Pauli
-  pub conjugated_is : (gates : List ChannelGate) (center : Gate) (a b : Zω) (z j : ℕ) → AllByRecursion (Fits n) gates → Equal n (gate_matrix center) (record { table = axis n a b z; exponent = j })
+  pub conjugated_is : (gates : List ChannelGate) (center : Gate) (a b : Zω) (z j : ℕ) → AllByRecursion (GateFits n) gates → Equal n (gate_matrix center) (record { table = axis n a b z; exponent = j })
       → (s : Signed) → s.code < 4 ^ n → images n gates s ≡ record { code = z; is_negative = false } → Equal n (matrix_of n (conjugated_gates gates center)) (signed_axis n a b s j)
   conjugated_is [] center a b z j fits h s l e = gate_is n center ⊚ h ⊚ subst (λ (t : Signed). Equal n (record { table = axis n a b z; exponent = j }) (signed_axis n a b t j)) (sym e) (plain_axis n a b z j)
   conjugated_is (g ∷ gates) center a b z j fits h s l e =

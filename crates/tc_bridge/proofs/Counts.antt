@@ -8,7 +8,7 @@ use Rattle.tc_circuit.specs.Model.{IsCircuit, t_count_of}
 use Rattle.tc_circuit.specs.declared.circuit.Gate.{Gate}
 use Rattle.channel_rep.specs.declared.gate.ChannelGate.{ChannelGate}
 use Rattle.channel_rep.specs.declared.gate.ChannelGate.TheVariants.{H, S, Sdg, Cx}
-use Rattle.channel_rep.specs.Gates.{Fits}
+use Rattle.channel_rep.specs.Gates.{GateFits}
 use Rattle.channel_rep.specs.Words.{IsWord}
 use Rattle.tc_bridge.specs.Block.{as_gate, as_gates, undone, opening, highest, block, word_gates}
 use Rattle.tc_bridge.proofs.Conjugations.{gate_fits, all-append, undone_fits}
@@ -38,7 +38,7 @@ clifford_count [] = refl
 clifford_count (g ∷ gates) = omega (arith, t_count-cons (as_gate g) (as_gates gates), clifford_t g, clifford_count gates)
 
 -- and are a circuit where they fit
-pub clifford_circuit : (n : ℕ) (gates : List ChannelGate) → AllByRecursion (Fits n) gates → IsCircuit n (as_gates gates)
+pub clifford_circuit : (n : ℕ) (gates : List ChannelGate) → AllByRecursion (GateFits n) gates → IsCircuit n (as_gates gates)
 clifford_circuit n [] fits = tt
 clifford_circuit n (g ∷ gates) fits = (gate_fits n g fits.0, clifford_circuit n gates fits.1)
 

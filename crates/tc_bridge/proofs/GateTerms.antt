@@ -11,7 +11,7 @@ use Rattle.tc_circuit.proofs.Flips.{sizes}
 use Rattle.pauli_basis.specs.Products.{product_code, turns, sign_turns}
 use Rattle.pauli_basis.proofs.Small.{all, all_at, all_at2, and_left, and_right}
 use Rattle.channel_rep.specs.declared.gate.ChannelGate.{ChannelGate}
-use Rattle.channel_rep.specs.Gates.{Fits, image}
+use Rattle.channel_rep.specs.Gates.{GateFits, image}
 use Rattle.tc_bridge.specs.Pauli.{imaginary, letter_matrix, pauli_matrix, sign}
 use Rattle.tc_bridge.specs.Steps.{z_on}
 use Rattle.tc_bridge.specs.Block.{as_gate}
@@ -25,7 +25,7 @@ abbrev pub all_cliffords : ℕ → (ChannelGate → Bool) → Bool
 all_cliffords n f = all n (λ q. f (ChannelGate.H q) && (f (ChannelGate.S q) && (f (ChannelGate.Sdg q) && all n (λ t. eqb q t || f (ChannelGate.Cx q t)))))
 
 -- a test at one of them
-at_clifford : (n : ℕ) (f : ChannelGate → Bool) → Holds (all_cliffords n f) → (g : ChannelGate) → Fits n g → Holds (f g)
+at_clifford : (n : ℕ) (f : ChannelGate → Bool) → Holds (all_cliffords n f) → (g : ChannelGate) → GateFits n g → Holds (f g)
 at_clifford n f h (ChannelGate.H q) l = and_left (f (ChannelGate.H q)) _ (all_at n _ h q l)
 at_clifford n f h (ChannelGate.S q) l = and_left (f (ChannelGate.S q)) _ (and_right (f (ChannelGate.H q)) _ (all_at n _ h q l))
 at_clifford n f h (ChannelGate.Sdg q) l = and_left (f (ChannelGate.Sdg q)) _ (and_right (f (ChannelGate.S q)) _ (and_right (f (ChannelGate.H q)) _ (all_at n _ h q l)))
@@ -35,7 +35,7 @@ at_clifford n f h (ChannelGate.Cx q t) l =
 
 module _ (f : ℕ → ChannelGate → Bool) (one : Holds (all_cliffords 1 (f 1))) (two : Holds (all_cliffords 2 (f 2))) (three : Holds (all_cliffords 3 (f 3))) where
   -- a test that every Clifford gate passes
-  pub each_clifford : (n : ℕ) → 0 < n → n ≤ 3 → (g : ChannelGate) → Fits n g → Holds (f n g)
+  pub each_clifford : (n : ℕ) → 0 < n → n ≤ 3 → (g : ChannelGate) → GateFits n g → Holds (f n g)
   each_clifford n some few = at_clifford n (f n) (sizes (λ n. Holds (all_cliffords n (f n))) one two three n some few)
 
 -- ---- the gates as sums: h·√2 (its table) is X + Z, s·√2 is ω·I + ω⁷·Z, sdg·√2 is ω⁷·I + ω·Z, 2·cx is I + Z + X − Z·X
@@ -73,7 +73,7 @@ unfolding matrix_add multiple kronecker identity integer plus times negative pow
 sums_3 = tt
 
 -- √2 to its power times a Clifford gate is the sum of its terms
-pub gate_sum : (n : ℕ) → 0 < n → n ≤ 3 → (g : ChannelGate) → Fits n g → Alike cyclotomics (2 ^ n) (multiple cyclotomics (power cyclotomics root2 (gate_roots g)) (gate_table (as_gate g))) (terms_sum n (gate_terms g))
+pub gate_sum : (n : ℕ) → 0 < n → n ≤ 3 → (g : ChannelGate) → GateFits n g → Alike cyclotomics (2 ^ n) (multiple cyclotomics (power cyclotomics root2 (gate_roots g)) (gate_table (as_gate g))) (terms_sum n (gate_terms g))
 unfolding multiple
 gate_sum n some few g fits = record { at = λ r c lr lc. number_equal _ _ (all_at2 (2 ^ n) (2 ^ n) (is_sum_at n g) (each_clifford is_sum sums_1 sums_2 sums_3 n some few g fits) r c lr lc) }
 
@@ -100,7 +100,7 @@ conjugates_3 : Holds (all_cliffords 3 (conjugates 3))
 unfolding turns image
 conjugates_3 = tt
 
-module _ (n : ℕ) (some : 0 < n) (few : n ≤ 3) (g : ChannelGate) (fits : Fits n g) (q : ℕ) (l : q < 4 ^ n) where
+module _ (n : ℕ) (some : 0 < n) (few : n ≤ 3) (g : ChannelGate) (fits : GateFits n g) (q : ℕ) (l : q < 4 ^ n) where
   -- the computed fact at one gate and one Pauli
   conjugated : Holds (conjugates_at n g q)
   conjugated = all_at (4 ^ n) (conjugates_at n g) (each_clifford conjugates conjugates_1 conjugates_2 conjugates_3 n some few g fits) q l

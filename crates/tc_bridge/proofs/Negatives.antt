@@ -11,7 +11,7 @@ use Rattle.tc_circuit.specs.Model.{ScaledMatrix, matrix_of}
 use Rattle.tc_circuit.specs.declared.circuit.Gate.{Gate}
 use Rattle.channel_rep.specs.declared.gate.ChannelGate.{ChannelGate}
 use Rattle.channel_rep.specs.declared.gate.ChannelGate.TheVariants.{Sdg}
-use Rattle.channel_rep.specs.Gates.{Fits}
+use Rattle.channel_rep.specs.Gates.{GateFits}
 use Rattle.tc_bridge.specs.Pauli.{pauli_matrix, sign}
 use Rattle.tc_bridge.specs.Rotation.{axis, rotation, scaled_product}
 use Rattle.tc_bridge.specs.Steps.{z_on}
@@ -93,8 +93,8 @@ module _ (n : ℕ) (some : 0 < n) (few : n ≤ 3) where
       (opened_is n some few p l d (Gate.Sdg (highest n p)) (power cyclotomics ω 7) ω 1 (sdg_axis (highest n p) (opening_is n some few p l d).below))
 
   -- and its gates fit
-  quarter_fits : (p : ℕ) → p < 4 ^ n → p ≢ 0 → AllByRecursion (Fits n) (quarter_gates n p)
-  quarter_fits p l d = let o = opening_is n some few p l d in all-append (Fits n) (opening n p) _ o.fits (o.below, undone_fits n (opening n p) o.fits)
+  quarter_fits : (p : ℕ) → p < 4 ^ n → p ≢ 0 → AllByRecursion (GateFits n) (quarter_gates n p)
+  quarter_fits p l d = let o = opening_is n some few p l d in all-append (GateFits n) (opening n p) _ o.fits (o.below, undone_fits n (opening n p) o.fits)
 
   -- ---- R(±P) as R(P) behind Clifford gates
   pub correction : Bool → ℕ → List ChannelGate
@@ -102,7 +102,7 @@ module _ (n : ℕ) (some : 0 < n) (few : n ≤ 3) where
   correction false p = []
 
   -- its gates fit
-  pub correction_fits : (s : Bool) (p : ℕ) → p < 4 ^ n → p ≢ 0 → AllByRecursion (Fits n) (correction s p)
+  pub correction_fits : (s : Bool) (p : ℕ) → p < 4 ^ n → p ≢ 0 → AllByRecursion (GateFits n) (correction s p)
   unfolding correction
   correction_fits true p l d = quarter_fits p l d
   correction_fits false p l d = tt

@@ -16,7 +16,7 @@ use Rattle.tc_circuit.proofs.Gates.{diagonal_product}
 use Rattle.tc_circuit.specs.declared.circuit.Gate.{Gate}
 use Rattle.channel_rep.specs.declared.gate.ChannelGate.{ChannelGate}
 use Rattle.channel_rep.specs.declared.gate.ChannelGate.TheVariants.{H, S, Sdg, Cx}
-use Rattle.channel_rep.specs.Gates.{Fits, image}
+use Rattle.channel_rep.specs.Gates.{GateFits, image}
 use Rattle.pauli_basis.specs.Products.{turns}
 use Rattle.pauli_basis.proofs.Small.{all, all_at}
 use Rattle.channel_rep.specs.Words.{IsWord}
@@ -63,7 +63,7 @@ keeps_3 = tt
 
 module _ (n : ℕ) (some : 0 < n) (few : n ≤ 3) where
   -- the image of a letter is a letter
-  image_letter : (g : ChannelGate) → Fits n g → (p : ℕ) → IsLetter n p → IsLetter n (image n g p).code
+  image_letter : (g : ChannelGate) → GateFits n g → (p : ℕ) → IsLetter n p → IsLetter n (image n g p).code
   image_letter g fits p h =
       let kept = or_right (eqb p 0) _ (λ k. h.1 (eqb→eq p 0 k)) (all_at (4 ^ n) (keeps_at n g) (each_clifford keeps keeps_1 keeps_2 keeps_3 n some few g fits) p h.0) in
       (image-lt n some few g fits p h.0, λ e. T_not (eqb (image n g p).code 0) kept (subst (λ (x : ℕ). Holds (eqb x 0)) (sym e) tt))
@@ -73,7 +73,7 @@ pub record PastLetter (n p : ℕ) (gates : List ChannelGate) : Type 0 where
   pub letter : ℕ
   pub rest : List ChannelGate
   pub good : IsLetter n letter
-  pub fits : AllByRecursion (Fits n) rest
+  pub fits : AllByRecursion (GateFits n) rest
   pub is : Near n (scaled_product n (clifford_matrix n gates) (rotation n p)) (scaled_product n (rotation n letter) (clifford_matrix n rest))
 
 -- and past a word
@@ -81,7 +81,7 @@ pub record PastWord (n : ℕ) (word : List ℕ) (gates : List ChannelGate) : Typ
   pub letters : List ℕ
   pub rest : List ChannelGate
   pub good : IsWord n letters
-  pub fits : AllByRecursion (Fits n) rest
+  pub fits : AllByRecursion (GateFits n) rest
   pub long : length letters ≡ length word
   pub is : Near n (scaled_product n (clifford_matrix n gates) (word_matrix n word)) (scaled_product n (word_matrix n letters) (clifford_matrix n rest))
 
@@ -91,7 +91,7 @@ clifford-append n c d = subst (λ (x : List Gate). Equal n (matrix_of n x) (scal
 
 module _ (n : ℕ) (some : 0 < n) (few : n ≤ 3) where
   -- gate by gate
-  pub past_letter : (gates : List ChannelGate) → AllByRecursion (Fits n) gates → (p : ℕ) → IsLetter n p → PastLetter n p gates
+  pub past_letter : (gates : List ChannelGate) → AllByRecursion (GateFits n) gates → (p : ℕ) → IsLetter n p → PastLetter n p gates
   past_letter [] fits p h = record { letter = p; rest = []; good = h; fits = tt; is = near (one-mul (rotation n p) ⊚ equal-sym (mul-one (rotation n p))) }
   past_letter (g ∷ gates) fits p h = by (past_letter gates fits.1 (image n g p).code (image_letter n some few g fits.0 p h))
     where
@@ -106,7 +106,7 @@ module _ (n : ℕ) (some : 0 < n) (few : n ≤ 3) where
             letter = ih.letter;
             rest = g ∷ (fix ++ ih.rest);
             good = ih.good;
-            fits = (fits.0, all-append (Fits n) fix ih.rest (correction_fits n some few s.is_negative s.code good.0 good.1) ih.fits);
+            fits = (fits.0, all-append (GateFits n) fix ih.rest (correction_fits n some few s.is_negative s.code good.0 good.1) ih.fits);
             is =
                 near (mul-right (cons_is n (as_gate g) (as_gates gates)) (rotation n p) ⊚ mul_assoc v u (rotation n p))
                 ⊛ near-left v (
@@ -120,7 +120,7 @@ module _ (n : ℕ) (some : 0 < n) (few : n ≤ 3) where
           }
 
   -- letter by letter
-  pub past_word : (word : List ℕ) (gates : List ChannelGate) → AllByRecursion (Fits n) gates → IsWord n word → PastWord n word gates
+  pub past_word : (word : List ℕ) (gates : List ChannelGate) → AllByRecursion (GateFits n) gates → IsWord n word → PastWord n word gates
   past_word [] gates fits good = record { letters = []; rest = gates; good = tt; fits = fits; long = refl; is = near (mul-one (clifford_matrix n gates) ⊚ equal-sym (one-mul (clifford_matrix n gates))) }
   past_word (p ∷ word) gates fits good = let s = past_letter gates fits p good.0 in join s (past_word word s.rest s.fits good.1)
     where
@@ -146,7 +146,7 @@ pub record IsWorded (n : ℕ) (m : ScaledMatrix) (t : ℕ) : Type 0 where
   pub letters : List ℕ
   pub rest : List ChannelGate
   pub good : IsWord n letters
-  pub fits : AllByRecursion (Fits n) rest
+  pub fits : AllByRecursion (GateFits n) rest
   pub long : length letters ≡ t
   pub is : Near n m (scaled_product n (word_matrix n letters) (clifford_matrix n rest))
 
@@ -169,7 +169,7 @@ tdg_is n q = equal_tables _ _ refl (record {
 
 module _ (n : ℕ) (some : 0 < n) (few : n ≤ 3) where
   -- a Clifford gate moves past the word
-  clifford_more : (g : ChannelGate) → Fits n g → (m : ScaledMatrix) (t : ℕ) → IsWorded n m t → IsWorded n (scaled_product n (gate_matrix (as_gate g)) m) t
+  clifford_more : (g : ChannelGate) → GateFits n g → (m : ScaledMatrix) (t : ℕ) → IsWorded n m t → IsWorded n (scaled_product n (gate_matrix (as_gate g)) m) t
   clifford_more g fits m t w = by (past_word n some few w.letters (g ∷ []) (fits, tt) w.good)
     where
       by : PastWord n w.letters (g ∷ []) → IsWorded n (scaled_product n (gate_matrix (as_gate g)) m) t
@@ -180,7 +180,7 @@ module _ (n : ℕ) (some : 0 < n) (few : n ≤ 3) where
             letters = p.letters;
             rest = w.rest ++ p.rest;
             good = p.good;
-            fits = all-append (Fits n) w.rest p.rest w.fits p.fits;
+            fits = all-append (GateFits n) w.rest p.rest w.fits p.fits;
             long = p.long ∙ w.long;
             is =
                 near-left u w.is

@@ -4,7 +4,7 @@ ghost use Rattle.std.specs.Prelude.{◌≡◌, ◌≢◌, ℕ, ◌+◌, ◌<◌,
 ghost use Rattle.tc_circuit.specs.Gate.{Fits as FitsGate, is_t};
 ghost use Rattle.channel_rep.specs.Cells.{scaled, most_exponent};
 ghost use Rattle.channel_rep.specs.Conjugations.{IsConjugationBy};
-ghost use Rattle.channel_rep.specs.Gates.{Fits};
+ghost use Rattle.channel_rep.specs.Gates.{GateFits};
 ghost use Rattle.channel_rep.specs.Tables.{Step, by_gate, by_rotation, by_inverse_rotation, IsBuiltOf};
 ghost use Rattle.tc_bridge.specs.Steps.{z_on as z_code, step_of};
 
@@ -71,7 +71,7 @@ impl Progress {
 
     /// Puts a Clifford gate behind the pending ones.
     fn gather(&mut self, gate: ChannelGate)
-        requires { Fits self.old.channel.qubits gate }
+        requires { GateFits self.old.channel.qubits gate }
         ensures qubits { self.new.channel.qubits ≡ self.old.channel.qubits }
         ensures exponent { self.new.channel.exponent ≡ self.old.channel.exponent }
         ensures taken { (steps : List Step) → HasTaken steps self.old

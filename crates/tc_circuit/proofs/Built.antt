@@ -6,7 +6,7 @@ use Rattle.ring_laws.proofs.Sums.{product-Agree}
 use Rattle.ring_laws.proofs.Cyclotomic.{cyclotomics_laws}
 use Rattle.tc_ring.specs.declared.omega.Omega.{Omega}
 use Rattle.tc_circuit.specs.Gate.{gate_table, gate_exponent}
-use Rattle.tc_circuit.specs.Grid.{Grid, IsGrid, entries, scaled}
+use Rattle.tc_circuit.specs.Grid.{Grid, IsGrid, entries, grid_matrix}
 use Rattle.tc_circuit.specs.Model.{ScaledMatrix, matrix_of, IsMatrixOf}
 use Rattle.tc_circuit.specs.declared.circuit.Gate.{Gate}
 use Rattle.tc_circuit.proofs.Cells.{written}
@@ -28,11 +28,11 @@ matrix_more n gate gates a b e agrees h =
 pub matrix_written : (n k j len : ℕ) (gate : Gate) (old lent new : List Omega) (view : Grid) → record { qubits = n; exponent = k; cells = old } ≡ view
     → IsGrid (record { qubits = n; exponent = k; cells = old }) → lent ≡ old → length lent ≡ len → j ≡ gate_exponent gate + k → length new ≡ 2 ^ n * 2 ^ n
     → Agree cyclotomics (2 ^ n) (entries n new) (product cyclotomics (2 ^ n) (gate_table gate) (entries n lent))
-    → (gates : List Gate) → IsMatrixOf view.qubits gates (scaled view) → IsMatrixOf view.qubits (gates ++ gate ∷ []) (scaled (record { qubits = n; exponent = j; cells = take len (new ++ drop (length new) old) }))
+    → (gates : List Gate) → IsMatrixOf view.qubits gates (grid_matrix view) → IsMatrixOf view.qubits (gates ++ gate ∷ []) (grid_matrix (record { qubits = n; exponent = j; cells = take len (new ++ drop (length new) old) }))
 matrix_written n k j len gate old lent new view e h same long more whole agrees gates =
     let before : length old ≡ len = sym (ap length same) ∙ long in
     let after : length new ≡ len = whole ∙ sym h.whole ∙ before in
     let agreed = subst (λ (cells : List Omega). Agree cyclotomics (2 ^ n) (entries n new) (product cyclotomics (2 ^ n) (gate_table gate) (entries n cells))) same agrees in
-    subst (λ (view : Grid). IsMatrixOf view.qubits gates (scaled view) → IsMatrixOf view.qubits (gates ++ gate ∷ []) (scaled (record { qubits = n; exponent = j; cells = take len (new ++ drop (length new) old) }))) e
-    (λ m. subst (λ (cells : List Omega). IsMatrixOf n (gates ++ gate ∷ []) (scaled (record { qubits = n; exponent = j; cells = cells }))) (sym (written len new old after before))
-    (matrix_more n gate gates (scaled (record { qubits = n; exponent = k; cells = old })) (scaled (record { qubits = n; exponent = j; cells = new })) more agreed m))
+    subst (λ (view : Grid). IsMatrixOf view.qubits gates (grid_matrix view) → IsMatrixOf view.qubits (gates ++ gate ∷ []) (grid_matrix (record { qubits = n; exponent = j; cells = take len (new ++ drop (length new) old) }))) e
+    (λ m. subst (λ (cells : List Omega). IsMatrixOf n (gates ++ gate ∷ []) (grid_matrix (record { qubits = n; exponent = j; cells = cells }))) (sym (written len new old after before))
+    (matrix_more n gate gates (grid_matrix (record { qubits = n; exponent = k; cells = old })) (grid_matrix (record { qubits = n; exponent = j; cells = new })) more agreed m))

@@ -1,4 +1,4 @@
--- Being the same up to a phase is an equivalence, which gates keep.
+-- Lemmas for the crates above: being the same up to a phase is an equivalence, which gates keep.
 use Rattle.std.proofs.Common.{◌≡◌, ℕ, ◌+◌, ◌-◌, ◌^◌, ◌<◌, ◌≤◌, refl, ap, sym, subst, ◌∙◌, arith, List, [], ◌∷◌, ◌++◌, inl, inr}
 use Rattle.std.proofs.lemmas.Bool.{cases_lt}
 use Rattle.ring_laws.specs.Ring.{power}

@@ -18,12 +18,12 @@ no_cell = record { x = [] }
 abbrev pub entries : ℕ → List Omega → Table
 entries n cells row column = number_of (slice_index_or cells (row * 2 ^ n + column) no_cell)
 
-abbrev pub table_of : Grid → Table
-table_of m = entries m.qubits m.cells
+abbrev pub grid_table : Grid → Table
+grid_table m = entries m.qubits m.cells
 
 -- the matrix that it stands for
-abbrev pub scaled : Grid → ScaledMatrix
-scaled m = record { table = table_of m; exponent = m.exponent }
+abbrev pub grid_matrix : Grid → ScaledMatrix
+grid_matrix m = record { table = grid_table m; exponent = m.exponent }
 
 -- each entry of the column is within the bound
 abbrev pub ColumnWithin : ℕ → ℕ → List Omega → ℕ → Type 0

@@ -208,7 +208,7 @@ impl Model for Matrix {
 }
 
 impl Matrix {
-    ghost use Rattle.tc_circuit.specs.Grid.{table_of, scaled};
+    ghost use Rattle.tc_circuit.specs.Grid.{grid_table, grid_matrix};
     ghost use Rattle.tc_circuit.specs.declared.circuit.Gate.{Gate};
 
     /// The identity on n qubits, with exponent 0.
@@ -217,8 +217,8 @@ impl Matrix {
         requires few { n ≤ 3 }
         ensures qubits { IfOk result (λ m. m.qubits ≡ n) }
         ensures exponent { IfOk result (λ m. m.exponent ≡ 0) }
-        ensures table { IfOk result (λ m. Agree cyclotomics (2 ^ n) (table_of m) (identity cyclotomics)) }
-        ensures built { IfOk result (λ m. IsMatrixOf n [] (scaled m)) }
+        ensures table { IfOk result (λ m. Agree cyclotomics (2 ^ n) (grid_table m) (identity cyclotomics)) }
+        ensures built { IfOk result (λ m. IsMatrixOf n [] (grid_matrix m)) }
     {
         let cells = identity_cells(alloc, n)?;
         Ok(Matrix { n, k: 0, cells })
@@ -230,9 +230,9 @@ impl Matrix {
         requires room { gate_exponent gate + self.old.exponent ≤ 120 }
         ensures qubits { self.new.qubits ≡ self.old.qubits }
         ensures exponent { self.new.exponent ≡ gate_exponent gate + self.old.exponent }
-        ensures table { Agree cyclotomics (2 ^ self.old.qubits) (table_of self.new) (product cyclotomics (2 ^ self.old.qubits) (gate_table gate) (table_of self.old)) }
-        ensures built { (gates : List Gate) → IsMatrixOf self.old.qubits gates (scaled self.old)
-            → IsMatrixOf self.old.qubits (gates ++ gate ∷ []) (scaled self.new) }
+        ensures table { Agree cyclotomics (2 ^ self.old.qubits) (grid_table self.new) (product cyclotomics (2 ^ self.old.qubits) (gate_table gate) (grid_table self.old)) }
+        ensures built { (gates : List Gate) → IsMatrixOf self.old.qubits gates (grid_matrix self.old)
+            → IsMatrixOf self.old.qubits (gates ++ gate ∷ []) (grid_matrix self.new) }
     {
         change_cells(&mut self.cells, self.n, gate);
         if let Gate::H(_) = gate {
@@ -259,7 +259,7 @@ impl Matrix {
     pub fn cell(&self, row: usize, col: usize) -> Omega
         requires row { row < 2 ^ self.now.qubits }
         requires col { col < 2 ^ self.now.qubits }
-        ensures value { number_of result ≡ table_of self.now row col }
+        ensures value { number_of result ≡ grid_table self.now row col }
         ensures small { IsWithin (2 ^ self.now.exponent) (number_of result) }
         ensures exponent { self.now.exponent ≤ 120 }
     {

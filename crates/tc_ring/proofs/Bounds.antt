@@ -1,4 +1,4 @@
--- How far the operations let coordinates grow.
+-- Lemmas for the crates above: how far the operations let coordinates grow.
 use Rattle.std.proofs.Common.{◌≤◌, ℕ, zero, suc, ◌+◌, ◌*◌, sym, subst, arith}
 use Rattle.std.proofs.lemmas.Int.{ints}
 use Rattle.ring_laws.specs.Ring.{power}

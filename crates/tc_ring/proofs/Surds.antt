@@ -1,4 +1,4 @@
--- Z[√2] is a commutative ring, and a part of Z[ω].
+-- Lemmas for the crates above: Z[√2] is a commutative ring, and a part of Z[ω].
 use Rattle.std.proofs.Common.{◌≡◌, ℕ, zero, suc, ◌+◌, ◌*◌, ◌≤◌, [], ◌∷◌, refl, ap, sym, ◌∙◌, arith}
 use Rattle.std.specs.Prelude.{ℤ, pos, ◌+ℤ◌, ◌*ℤ◌}
 use Rattle.std.proofs.lemmas.Int.{ints}

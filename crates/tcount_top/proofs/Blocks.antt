@@ -9,7 +9,7 @@ use Rattle.tc_circuit.specs.declared.circuit.Gate.{Gate}
 use Rattle.pauli_basis.specs.Letters.{letter_of}
 use Rattle.channel_rep.specs.declared.gate.ChannelGate.{ChannelGate}
 use Rattle.channel_rep.specs.declared.gate.ChannelGate.TheVariants.{H, S, Sdg, Cx}
-use Rattle.channel_rep.specs.Gates.{Fits}
+use Rattle.channel_rep.specs.Gates.{GateFits}
 use Rattle.tc_bridge.specs.Block.{as_gate, as_gates, inverse_gate, undone, letter_to_z, to_z, highest, gather, rising, opening, block, word_gates}
 
 -- ---- they fit
@@ -17,23 +17,23 @@ all_append : {X : Type 0} → (P : X → Type 0) (xs ys : List X) → AllByRecur
 all_append P [] ys hx hy = hy
 all_append P (x ∷ xs) ys hx hy = (hx.0, all_append P xs ys hx.1 hy)
 
-letter_fits : (n q l : ℕ) → q < n → AllByRecursion (Fits n) (letter_to_z q l)
+letter_fits : (n q l : ℕ) → q < n → AllByRecursion (GateFits n) (letter_to_z q l)
 letter_fits n q zero h = tt
 letter_fits n q (suc zero) h = (h, tt)
 letter_fits n q (suc (suc zero)) h = (h, (h, tt))
 letter_fits n q (suc (suc (suc l))) h = tt
 
-gather_fits : (n z p q : ℕ) → z < n → q < n → AllByRecursion (Fits n) (gather z p q)
+gather_fits : (n z p q : ℕ) → z < n → q < n → AllByRecursion (GateFits n) (gather z p q)
 gather_fits n z p q hz hq = by (letter_of q p == 0) (q == z) refl
   where
-    by : (a b : Bool) → (q == z) ≡ b → AllByRecursion (Fits n) (if a || b then [] else (Cx q z ∷ []))
+    by : (a b : Bool) → (q == z) ≡ b → AllByRecursion (GateFits n) (if a || b then [] else (Cx q z ∷ []))
     by true b e = tt
     by false true e = tt
     by false false e = ((hq, hz, eqb-false q z e), tt)
 
-rising_fits : (n : ℕ) (f : ℕ → List ChannelGate) → ((q : ℕ) → q < n → AllByRecursion (Fits n) (f q)) → (count q : ℕ) → q + count ≤ n → AllByRecursion (Fits n) (rising f count q)
+rising_fits : (n : ℕ) (f : ℕ → List ChannelGate) → ((q : ℕ) → q < n → AllByRecursion (GateFits n) (f q)) → (count q : ℕ) → q + count ≤ n → AllByRecursion (GateFits n) (rising f count q)
 rising_fits n f h zero q l = tt
-rising_fits n f h (suc count) q l = all_append (Fits n) (f q) (rising f count (suc q)) (h q (omega (arith, l))) (rising_fits n f h count (suc q) (omega (arith, l)))
+rising_fits n f h (suc count) q l = all_append (GateFits n) (f q) (rising f count (suc q)) (h q (omega (arith, l))) (rising_fits n f h count (suc q) (omega (arith, l)))
 
 highest_within : (count p : ℕ) → highest count p ≤ count
 highest_within zero p = omega arith
@@ -51,31 +51,31 @@ highest_below (suc q) p h = by (letter_of q p == 0)
     by true = omega (arith, highest_within q p)
     by false = omega arith
 
-opening_fits : (n p : ℕ) → 0 < n → AllByRecursion (Fits n) (opening n p)
+opening_fits : (n p : ℕ) → 0 < n → AllByRecursion (GateFits n) (opening n p)
 opening_fits n p some =
-    all_append (Fits n) (rising (to_z p) n 0) (rising (gather (highest n p) p) n 0)
+    all_append (GateFits n) (rising (to_z p) n 0) (rising (gather (highest n p) p) n 0)
     (rising_fits n (to_z p) (λ q h. letter_fits n q (letter_of q p) h) n 0 (omega arith))
     (rising_fits n (gather (highest n p) p) (λ q h. gather_fits n (highest n p) p q (highest_below n p some) h) n 0 (omega arith))
 
-gate_fits : (n : ℕ) (g : ChannelGate) → Fits n g → circuit.Fits n (as_gate g)
+gate_fits : (n : ℕ) (g : ChannelGate) → GateFits n g → circuit.Fits n (as_gate g)
 gate_fits n (H q) h = h
 gate_fits n (S q) h = h
 gate_fits n (Sdg q) h = h
 gate_fits n (Cx control target) h = h
 
-gates_fit : (n : ℕ) (gates : List ChannelGate) → AllByRecursion (Fits n) gates → IsCircuit n (as_gates gates)
+gates_fit : (n : ℕ) (gates : List ChannelGate) → AllByRecursion (GateFits n) gates → IsCircuit n (as_gates gates)
 gates_fit n [] h = tt
 gates_fit n (g ∷ gates) h = (gate_fits n g h.0, gates_fit n gates h.1)
 
-inverse_fits : (n : ℕ) (g : ChannelGate) → Fits n g → Fits n (inverse_gate g)
+inverse_fits : (n : ℕ) (g : ChannelGate) → GateFits n g → GateFits n (inverse_gate g)
 inverse_fits n (H q) h = h
 inverse_fits n (S q) h = h
 inverse_fits n (Sdg q) h = h
 inverse_fits n (Cx control target) h = h
 
-undone_fits : (n : ℕ) (gates : List ChannelGate) → AllByRecursion (Fits n) gates → AllByRecursion (Fits n) (undone gates)
+undone_fits : (n : ℕ) (gates : List ChannelGate) → AllByRecursion (GateFits n) gates → AllByRecursion (GateFits n) (undone gates)
 undone_fits n [] h = tt
-undone_fits n (g ∷ gates) h = all_append (Fits n) (undone gates) (inverse_gate g ∷ []) (undone_fits n gates h.1) (inverse_fits n g h.0, tt)
+undone_fits n (g ∷ gates) h = all_append (GateFits n) (undone gates) (inverse_gate g ∷ []) (undone_fits n gates h.1) (inverse_fits n g h.0, tt)
 
 block_fits : (n p : ℕ) → 0 < n → IsCircuit n (block n p)
 block_fits n p some =

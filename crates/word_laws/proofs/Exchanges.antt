@@ -1,4 +1,4 @@
--- Letters that commute may change places in a word.
+-- Lemmas for the crates above: letters that commute may change places in a word.
 use Rattle.std.proofs.Common.{◌≡◌, ◌≢◌, ℕ, ◌+◌, ◌^◌, ◌<◌, Bool, true, false, not, List, [], ◌∷◌, ◌++◌, refl, ap, sym, ◌∙◌, subst, inl, inr}
 use Rattle.std.proofs.lemmas.Bool.{cases_Bool}
 use Rattle.ring_laws.proofs.Integers.{integers_laws}

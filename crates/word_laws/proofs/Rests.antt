@@ -1,4 +1,4 @@
--- A word's inverse before a channel leaves a signed permutation exactly where the channel is in the word's coset.
+-- Lemmas for the crates above: a word's inverse before a channel leaves a signed permutation exactly where the channel is in the word's coset.
 use Rattle.std.proofs.Common.{◌≡◌, ℕ, ◌^◌, ◌<◌, ◌≤◌, true, false, List, [], ◌∷◌, refl, ap, sym, ◌∙◌, subst, arith, inl, inr}
 use Rattle.ring_laws.specs.Matrix.{product}
 use Rattle.tc_ring.specs.Surds.{surds, surd_times}

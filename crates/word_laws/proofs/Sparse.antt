@@ -1,4 +1,4 @@
--- The channel of a word is 0 outside the blocks of its letters' span.
+-- Lemmas for the crates above: the channel of a word is 0 outside the blocks of its letters' span.
 use Rattle.std.proofs.Common.{◌≡◌, ◌≢◌, ℕ, ◌^◌, ◌<◌, Bool, true, false, List, [], ◌∷◌, bit_xor, not, ap, sym, ◌∙◌, subst, inl, inr}
 use Rattle.std.specs.Int.Bits.{xor_self, xor_assoc}
 use Rattle.std.specs.Prelude.{if◌then◌else◌}

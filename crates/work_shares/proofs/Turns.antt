@@ -10,7 +10,7 @@ use Rattle.work_shares.specs.declared.entry.View.{View}
 use Rattle.work_shares.specs.declared.entry.Entry.{Entry}
 use Rattle.work_shares.specs.declared.entry.Entry.TheVariants.{Work, End}
 use Rattle.work_shares.specs.Entries.{view, ends, is_end}
-use Rattle.work_shares.specs.Rule.{all_parts, Fits, IsRuled, Pushed, Took, Learnt}
+use Rattle.work_shares.specs.Rule.{all_parts, KnowsPushed, IsRuled, Pushed, Took, Learnt}
 use Rattle.work_shares.proofs.Sums.{total-set, member_le, members_le, others_le, only_one}
 use Rattle.work_shares.proofs.Fronts.{got_each}
 
@@ -39,7 +39,7 @@ begins = record {
   cut = refl;
   parts = refl;
   once = λ weight. refl;
-  fits = λ j u e. subst (Fits []) (one_view (view all_parts [] []) j u e) (record { knows = λ _. refl; marks = omega arith; spent = λ z. absurd (omega arith) });
+  fits = λ j u e. subst (KnowsPushed []) (one_view (view all_parts [] []) j u e) (record { knows = λ _. refl; marks = omega arith; spent = λ z. absurd (omega arith) });
 }
 
 -- while one view has every part, no other has one
@@ -60,7 +60,7 @@ pushes port v xs whole items views h at =
         parts = (let q = h.parts in omega (arith, total-set parts_of views port v w at));
         once = λ f. (let q = h.once f in omega (arith, total-set (got_of f) views port v w at));
         fits = λ j u e. ⊎_elim
-            (λ (t : (j ≡ port) × (w ≡ u)). subst (Fits p) t.1 (record { knows = λ live. ap (λ l. l ++ xs) (mine.knows live); marks = mine.marks; spent = mine.spent }))
+            (λ (t : (j ≡ port) × (w ≡ u)). subst (KnowsPushed p) t.1 (record { knows = λ live. ap (λ l. l ++ xs) (mine.knows live); marks = mine.marks; spent = mine.spent }))
             (λ (t : (j ≢ port) × (get_elem? views j ≡ some u)). let o = h.fits j u t.1 in let none = alone views port j v u h.parts at whole t.0 t.1 in record { knows = λ live. absurd (omega arith); marks = o.marks; spent = o.spent })
             (at_set views port j w u e);
       },
@@ -84,7 +84,7 @@ takes port v room (x ∷ []) items views some_task one h at =
         parts = (let q = h.parts in omega (arith, total-set parts_of views port v w at));
         once = λ f. (let q = h.once f in omega (arith, total-set (got_of f) views port v w at, sum_by-append f v.got xs, sum_by-append f h.taken xs));
         fits = λ j u e. ⊎_elim
-            (λ (t : (j ≡ port) × (w ≡ u)). subst (Fits h.pushed) t.1 (record {
+            (λ (t : (j ≡ port) × (w ≡ u)). subst (KnowsPushed h.pushed) t.1 (record {
               knows = mine.knows;
               marks = omega (arith, sum_by_push is_end v.got x, mark_le x);
               spent = λ z. absurd (omega arith);
@@ -130,9 +130,9 @@ forks port v two fresh items views h at =
       parts = (let q = h.parts in omega (arith, total-set parts_of views port v l at, sum_by_push parts_of (set views port l) r));
       once = λ f. (let q = h.once f in omega (arith, total-set (got_of f) views port v l at, sum_by_push (got_of f) (set views port l) r));
       fits = λ j u e. ⊎_elim
-          (λ old. ⊎_elim (λ (t : (j ≡ port) × (l ≡ u)). subst (Fits h.pushed) t.1 (record { knows = λ _. is; marks = omega arith; spent = λ z. absurd (omega arith) }))
+          (λ old. ⊎_elim (λ (t : (j ≡ port) × (l ≡ u)). subst (KnowsPushed h.pushed) t.1 (record { knows = λ _. is; marks = omega arith; spent = λ z. absurd (omega arith) }))
           (λ (t : (j ≢ port) × (get_elem? views j ≡ some u)). h.fits j u t.1) (at_set views port j l u old))
-          (λ (same : r ≡ u). subst (Fits h.pushed) same (record { knows = λ _. is; marks = omega arith; spent = λ z. absurd (omega arith) }))
+          (λ (same : r ≡ u). subst (KnowsPushed h.pushed) same (record { knows = λ _. is; marks = omega arith; spent = λ z. absurd (omega arith) }))
           (at_snoc (set views port l) r u j e);
     }
 
@@ -152,9 +152,9 @@ merges port v other w live items views h at two at' =
       parts = (let q = h.parts in omega (arith, total-set parts_of views port v b at, total-set parts_of vs other w z at'));
       once = λ f. (let q = h.once f in omega (arith, total-set (got_of f) views port v b at, total-set (got_of f) vs other w z at', sum_by-append f v.got w.got));
       fits = λ j u e. ⊎_elim
-          (λ (t : (j ≡ other) × (z ≡ u)). subst (Fits h.pushed) t.1 (record { knows = λ x. absurd (omega arith); marks = omega arith; spent = λ _. refl }))
+          (λ (t : (j ≡ other) × (z ≡ u)). subst (KnowsPushed h.pushed) t.1 (record { knows = λ x. absurd (omega arith); marks = omega arith; spent = λ _. refl }))
           (λ (t : (j ≢ other) × (get_elem? vs j ≡ some u)). ⊎_elim
-          (λ (s : (j ≡ port) × (b ≡ u)). subst (Fits h.pushed) s.1 (record {
+          (λ (s : (j ≡ port) × (b ≡ u)). subst (KnowsPushed h.pushed) s.1 (record {
             knows = λ _. mine.knows live;
             marks = (let p = mine.marks in let q = theirs.marks in omega (arith, sum_by-append is_end v.got w.got));
             spent = λ none. absurd (omega arith);

@@ -12,7 +12,7 @@ abbrev pub all_parts : ℕ
 all_parts = 8
 
 -- a view with a part knows what was pushed; it has no more end marks than parts; and a spent view has got nothing
-pub record Fits (pushed : List Entry) (v : View) : Type 0 where
+pub record KnowsPushed (pushed : List Entry) (v : View) : Type 0 where
   pub knows : 0 < v.parts → v.pushed ≡ pushed
   pub marks : ends v.got ≤ v.parts
   pub spent : v.parts ≡ 0 → v.got ≡ []
@@ -23,7 +23,7 @@ pub record IsRuled (items : List Entry) (views : List View) : Type 0 where
   pub cut : pushed ≡ taken ++ items
   pub parts : sum_by (λ v. v.parts) views ≡ all_parts
   pub once : (weight : Entry → ℕ) → sum_by (λ v. sum_by weight v.got) views ≡ sum_by weight taken
-  pub fits : (port : ℕ) (v : View) → get_elem? views port ≡ some v → Fits pushed v
+  pub fits : (port : ℕ) (v : View) → get_elem? views port ≡ some v → KnowsPushed pushed v
 
 -- the entries joined what was pushed
 abbrev pub Pushed : View → List Entry → View → Type 0

@@ -1,5 +1,5 @@
 use Rattle.std.proofs.Common.{ap, sym, ◌∙◌, subst}
-use Rattle.channel_rep.specs.Gates.{Fits, image, h_letter, s_letter, sdg_letter}
+use Rattle.channel_rep.specs.Gates.{GateFits, image, h_letter, s_letter, sdg_letter}
 use Rattle.channel_rep.specs.declared.gate.ChannelGate.{ChannelGate}
 use Rattle.channel_rep.proofs.Images.{on_qubit_code, on_qubit_sign}
 use Rattle.channel_rep.proofs.gate.ChannelGate.image.Goals as goal
@@ -43,11 +43,11 @@ returns-in-Sdg-clause-sign c = λ n few fits l.
 pub returns-in-Cx-clause-code : goal.returns-in-Cx-clause-code
 unfolding image
 returns-in-Cx-clause-code c = λ n few fits l.
-    let both = subst (Fits n) c.in-Cx.is fits in
+    let both = subst (GateFits n) c.in-Cx.is fits in
     c.cx_image.ensures.code n few both.0 both.1 l ∙ sym (ap (λ (g : ChannelGate). (image n g c.args.code).code) c.in-Cx.is)
 
 pub returns-in-Cx-clause-sign : goal.returns-in-Cx-clause-sign
 unfolding image
 returns-in-Cx-clause-sign c = λ n few fits l.
-    let both = subst (Fits n) c.in-Cx.is fits in
+    let both = subst (GateFits n) c.in-Cx.is fits in
     c.cx_image.ensures.sign n few both.0 both.1 l ∙ sym (ap (λ (g : ChannelGate). (image n g c.args.code).is_negative) c.in-Cx.is)

@@ -7,7 +7,7 @@ use Rattle.level_store.proofs.Merely.{stored_at}
 use Rattle.std.proofs.lemmas.List.{length-map}
 use Rattle.coset_label.specs.Words.{RotationWord}
 use Rattle.meet_middle.specs.Fronts.{number_of}
-use Rattle.meet_middle.specs.Kept.{IsKept, keeps}
+use Rattle.meet_middle.specs.Kept.{IsTargetWithout, keeps}
 use Rattle.meet_middle.specs.Halves.{middle_letters}
 use Rattle.meet_middle.proofs.Halving.{front_parts, number_below}
 use Rattle.meet_middle.proofs.Keeping.{kept_decided}
@@ -40,7 +40,7 @@ returns-clause-keeps g c =
     let words = letters_in c.args.level.now in
     let target = scaled c.args.target.now in
     let word = slice_index_or words c.front-number.result.0 [] in
-    let kept = subst (IsKept n target word) (sym c.meet.ensures.kept) c.keep.ensures.kept in
+    let kept = subst (IsTargetWithout n target word) (sym c.meet.ensures.kept) c.keep.ensures.kept in
     subst (λ (o : Option ℕ). keeps n words target o c.meet.new.self.kept ≡ true) (sym (c.meet.ensures.number ∙ c.keep.ensures.number)) ((kept_decided n target word c.meet.new.self.kept).1 kept)
 
 pub returns-clause-finds : goal.returns-clause-finds
