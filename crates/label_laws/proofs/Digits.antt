@@ -1,4 +1,4 @@
--- The number of digits with signs has the sign of the first digit other than 0, and two such numbers compare as their digits.
+-- Lemmas for the crates above: the number of digits with signs has the sign of the first digit other than 0, and two such numbers compare as their digits.
 use Rattle.std.proofs.Common.{◌≡◌, ℕ, zero, suc, ◌+◌, ◌*◌, ◌^◌, ◌<◌, ◌≤◌, Bool, true, false, List, [], ◌∷◌, length, map, refl, ap, sym, ◌∙◌, subst, arith, Ordering, Less, Equal, Greater}
 use Rattle.std.specs.Prelude.{ℤ, pos, negsuc, neg_ℤ, ◌+ℤ◌, ◌*ℤ◌, ◌<ℤ◌, ◌≤ℤ◌, nat_abs, int_lt, cond}
 use Rattle.std.specs.Ordering.{int_cmp, ordering_then, MatchOrdering}

@@ -1,4 +1,4 @@
--- Folds of columns as sums over the rows.
+-- Lemmas for the crates above: folds of columns as sums over the rows.
 use Rattle.std.proofs.Common.{◌≡◌, ℕ, ◌^◌, ◌<◌, Bool, true, false, refl, ap, sym, ◌∙◌}
 use Rattle.std.specs.Prelude.{pos, ◌*ℤ◌, if◌then◌else◌}
 use Rattle.ring_laws.specs.Matrix.{sum, product, identity}

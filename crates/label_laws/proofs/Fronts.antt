@@ -1,4 +1,4 @@
--- The tag of a letter before a word, from the cells of the word's own channel.
+-- Lemmas for the crates above: the tag of a letter before a word, from the cells of the word's own channel.
 use Rattle.std.proofs.Common.{◌≡◌, ℕ, zero, suc, ◌+◌, ◌-◌, ◌*◌, ◌/◌, ◌^◌, ◌<◌, ◌≤◌, false, refl, ap, sym, ◌∙◌, subst, arith}
 use Rattle.std.specs.Prelude.{ℤ, pos, ◌*ℤ◌}
 use Rattle.ring_laws.specs.Matrix.{sum, product}

@@ -1,4 +1,4 @@
--- The columns of a circuit's label rise strictly.
+-- Lemmas for the crates above: the columns of a circuit's label rise strictly.
 use Rattle.std.proofs.Common.{ℕ, ◌^◌, ◌<◌, get_or, sym, ◌∙◌, arith, inl, inr}
 use Rattle.std.specs.Cmp.{IsTotalOrder}
 use Rattle.std.specs.Cmp.Lexicographic.{slice_cmp, lists_total}

@@ -1,4 +1,4 @@
--- One letter changes the least exponent by at most one, and the number of divisions tells by how much.
+-- Lemmas for the crates above: one letter changes the least exponent by at most one, and the number of divisions tells by how much.
 use Rattle.std.proofs.Common.{◌≡◌, ◌≢◌, ◌↔◌, ℕ, suc, ◌+◌, ◌-◌, ◌^◌, ◌<◌, ◌≤◌, Bool, true, false, ap, sym, ◌∙◌, arith, inl, inr}
 use Rattle.std.proofs.lemmas.Bool.{cases_eq, cases_lt}
 use Rattle.ring_laws.proofs.Ring.{mul_left_comm}

@@ -1,4 +1,4 @@
--- Behind a letter the channel of a circuit can't be divided by √2 more often than its exponent and 1: the norm of its columns is no
+-- Lemmas for the crates above: behind a letter the channel of a circuit can't be divided by √2 more often than its exponent and 1: the norm of its columns is no
 -- multiple of 4 where it is 2.
 use Rattle.std.proofs.Common.{◌≡◌, ◌≢◌, ℕ, ◌+◌, ◌^◌, ◌<◌, ◌≤◌, Bool, true, false, [], ◌∷◌, ap, sym, ◌∙◌, arith, inl, inr}
 use Rattle.std.specs.Prelude.{ℤ, pos, ◌+ℤ◌, ◌*ℤ◌}

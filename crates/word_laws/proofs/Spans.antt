@@ -1,4 +1,4 @@
--- The span of codes under exclusive or.
+-- Lemmas for the crates above: the span of codes under exclusive or.
 use Rattle.std.proofs.Common.{◌≡◌, ℕ, ◌<◌, List, [], ◌∷◌, bit_xor, length, slice_index_or, zero, suc, ap, sym, ◌∙◌, subst, arith, inl, inr, ◌⊎◌, refl}
 use Rattle.std.specs.Int.Bits.{xor_self, xor_assoc, xor_comm}
 use Rattle.std.proofs.lemmas.Bool.{cases_eq}
