@@ -18,3 +18,4 @@ pub mod Lines
 pub mod Norms
 pub mod Products
 pub mod Undone
+mod Pairs

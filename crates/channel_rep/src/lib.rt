@@ -17,6 +17,7 @@ mod channel;
 mod conjugation;
 mod gate;
 mod halves;
+mod lanes;
 pub mod laws;
 mod rows;
 mod steps;
