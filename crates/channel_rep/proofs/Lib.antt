@@ -19,3 +19,5 @@ pub mod Norms
 pub mod Products
 pub mod Undone
 mod Pairs
+mod TwoLists
+mod TurnedParts

@@ -1,6 +1,6 @@
 -- Pairs of numbers that are turned in lanes, or one by one.
 use Rattle.std.proofs.Common.{◌≡◌, ◌≢◌, ◌⊎◌, ℕ, zero, suc, ◌+◌, ◌-◌, ◌<◌, ◌≤◌, List, [], ◌∷◌, length, get_or, map, refl, ap, sym, ◌∙◌, subst, inl, inr, arith}
-use Rattle.std.specs.Prelude.{ℤ, pos, ◌-ℤ◌, ◌+ℤ◌, FitsSigned}
+use Rattle.std.specs.Prelude.{ℤ, pos, ◌-ℤ◌, ◌+ℤ◌, ◌*ℤ◌, FitsSigned}
 use Rattle.std.specs.Int.{w16}
 use Rattle.std.specs.Simd.Lanes.{zip2, Each1, Each2, chunk, put_chunk}
 use Rattle.std.proofs.lemmas.Bool.{cases_lt}
@@ -13,11 +13,11 @@ use mir.Facts.{to_z-of_z}
 use Rattle.channel_rep.specs.Lanes.{number, IsSmall, LanesFit, AreApart, IsOutside, HasSmallPairs, TurnsPairs}
 
 -- ---- numbers of sixteen bits, and their bits
-abbrev Fit : ℤ → Type 0
+abbrev pub Fit : ℤ → Type 0
 Fit = FitsSigned w16
 
 -- a number that went through its bits
-abbrev again : ℤ → ℤ
+abbrev pub again : ℤ → ℤ
 again z = to_z w16 (of_z w16 z)
 
 -- what holds of two numbers holds of them again
@@ -51,7 +51,7 @@ lanes_stored f xs ys zs p q r e =
     ap (λ l. map (to_z w16) (map (of_z w16) l)) plain ∙ lanes_again (zip2 f xs ys) (Each1-zip2 f Fit xs ys r)
 
 -- ---- small numbers fit, and so do their sums
-small_fits : (z : ℤ) → IsSmall z → Fit z
+pub small_fits : (z : ℤ) → IsSmall z → Fit z
 small_fits z h = fits_signed_from_abs w16 z (let l = h.low in let m = h.high in omega (arith, ints, l, m))
 
 -- differences
@@ -61,6 +61,10 @@ small_less x y h k = fits_signed_from_abs w16 _ (let a = h.low in let b = h.high
 -- sums
 small_more : (x y : ℤ) → IsSmall x → IsSmall y → Fit (x +ℤ y)
 small_more x y h k = fits_signed_from_abs w16 _ (let a = h.low in let b = h.high in let c = k.low in let d = k.high in omega (arith, ints, a, b, c, d))
+
+-- doubles
+pub small_twice : (z : ℤ) → IsSmall z → Fit (pos 2 *ℤ z)
+small_twice z h = fits_signed_from_abs w16 _ (let l = h.low in let m = h.high in omega (arith, ints, l, m))
 
 -- a run of small numbers, loaded
 small_run : (start count : ℕ) (numbers : List ℤ) → start + count ≤ length numbers → ((k : ℕ) → k < count → IsSmall (number numbers (start + k))) → Each1 IsSmall (chunk start count numbers)
