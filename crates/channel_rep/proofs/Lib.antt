@@ -21,3 +21,5 @@ pub mod Undone
 mod Pairs
 mod TwoLists
 mod TurnedParts
+mod UnitNorms
+mod NarrowGrids

@@ -35,4 +35,6 @@ pub use gate::ChannelGate;
 pub use narrow::{MOST_NARROW_EXPONENT, Narrow};
 
 #[cfg(test)]
+mod narrow_tests;
+#[cfg(test)]
 mod tests;

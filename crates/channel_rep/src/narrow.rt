@@ -1,5 +1,5 @@
 // The channel of a unitary, in rows of numbers of sixteen bits.
-ghost use Rattle.std.specs.Prelude.{◌≡◌, ◌≢◌, ℕ, ◌+◌, ◌*◌, ◌^◌, ◌<◌, ◌≤◌, ◌↔◌, List, [], ◌∷◌, ◌++◌, length, IsTrue, IfOk};
+ghost use Rattle.std.specs.Prelude.{◌≡◌, ◌≢◌, ℕ, ◌+◌, ◌*◌, ◌^◌, ◌<◌, ◌≤◌, ◌↔◌, List, [], ◌∷◌, ◌++◌, length, true, false, IsTrue, IfOk};
 ghost use Rattle.ring_laws.specs.Matrix.{product, identity, Agree};
 ghost use Rattle.tc_ring.specs.Surds.{surds, surd, SurdWithin};
 ghost use Rattle.channel_rep.specs.Norms.{HasNorm};
@@ -7,7 +7,7 @@ ghost use Rattle.channel_rep.specs.Tables.{Step, by_rotation, by_inverse_rotatio
 ghost use Rattle.channel_rep.specs.Parts.{most_narrow_exponent, IsNarrowGrid};
 
 use crate::Channel;
-use crate::parts::{divide_parts, join, split, write_identity};
+use crate::parts::{divide_parts, join, parts_at, split, write_identity};
 use crate::steps::codes;
 use crate::turns::rotate_parts;
 use pauli_basis::Pauli;
@@ -166,8 +166,7 @@ impl Narrow {
         ensures small { SurdWithin (2 ^ 14) (surd result.0 result.1) }
         ensures norm { HasNorm (4 ^ self.now.qubits) self.now.exponent (table_of self.now) }
     {
-        let place = row * codes(self.n) + col;
-        (self.a[place], self.b[place])
+        parts_at(&self.a, &self.b, codes(self.n), row, col)
     }
 
     /// Writes the cells, row by row.

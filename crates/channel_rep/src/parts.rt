@@ -2,7 +2,7 @@
 ghost use Rattle.std.specs.Prelude.{◌≡◌, ℕ, ◌-◌, ◌*◌, ◌%◌, ◌^◌, ◌<◌, ◌≤◌, ◌⊎◌, length, nat_abs, false, IsTrue};
 ghost use Rattle.ring_laws.specs.Matrix.{identity, Agree};
 ghost use Rattle.ring_laws.specs.Ring.{power};
-ghost use Rattle.tc_ring.specs.Surds.{surds, surd_times, root2_surd, SurdWithin, IsOdd};
+ghost use Rattle.tc_ring.specs.Surds.{surds, surd, surd_times, root2_surd, SurdWithin, IsOdd};
 ghost use Rattle.channel_rep.specs.Cells.{cell_of, entries};
 ghost use Rattle.channel_rep.specs.Lanes.{number};
 ghost use Rattle.channel_rep.specs.Parts.{cells_of};
@@ -48,6 +48,18 @@ pub fn join(a: &[i16], b: &[i16], cells: &mut [Root2])
             b: b[k] as i64,
         };
     }
+}
+
+/// The numbers of the cell at a row and a column.
+pub fn parts_at(a: &[i16], b: &[i16], size: usize, row: usize, column: usize) -> (i16, i16)
+    requires whole { length a.now ≡ size * size }
+    requires root { length b.now ≡ size * size }
+    requires row { row < size }
+    requires column { column < size }
+    ensures { surd result.0 result.1 ≡ entries size (cells_of a.now b.now) row column }
+{
+    let place = row * size + column;
+    (a[place], b[place])
 }
 
 /// Whether each number is even.

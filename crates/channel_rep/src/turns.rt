@@ -41,9 +41,9 @@ fn turn_parts(a: &mut [i16], b: &mut [i16], size: usize, low: usize, high: usize
     requires small_high { (c : ℕ) → c < size → SurdWithin most_small (entries size (cells_of a.old b.old) high c) }
     ensures { ChangesPair size low high
         (λ c. surd_plus (entries size (cells_of a.old b.old) low c)
-            (signed low_first (entries size (cells_of a.old b.old) high c)))
+        (signed low_first (entries size (cells_of a.old b.old) high c)))
         (λ c. surd_plus (entries size (cells_of a.old b.old) high c)
-            (signed (not low_first) (entries size (cells_of a.old b.old) low c)))
+        (signed (not low_first) (entries size (cells_of a.old b.old) low c)))
         (cells_of a.old b.old) (cells_of a.new b.new) }
 {
     if low_first {
