@@ -2,7 +2,7 @@
 use Rattle.std.proofs.Common.{◌≡◌, ◌≢◌, ◌⊎◌, ℕ, ◌+◌, ◌-◌, ◌*◌, ◌/◌, ◌%◌, ◌^◌, ◌<◌, ◌≤◌, Bool, List, ◌++◌, length, take, drop, refl, ap, sym, ◌∙◌, subst, inl, inr, arith}
 use Rattle.std.specs.Prelude.{ℤ}
 use Rattle.ring_laws.specs.Matrix.{identity, product, Agree}
-use Rattle.tc_ring.specs.Surds.{Surd, surds, surd, SurdWithin, IsOdd, surd_times}
+use Rattle.tc_ring.specs.Surds.{Surd, surds, SurdWithin, IsOdd, surd_times}
 use Rattle.tc_ring.specs.declared.root2.Root2.{Root2}
 use Rattle.channel_rep.specs.Tables.{rotation_table, SameTable}
 use Rattle.channel_rep.specs.Rows.{rotated}
@@ -12,8 +12,8 @@ use Rattle.channel_rep.specs.Parts.{cells_of, most_narrow_exponent, narrow_grid,
 use Rattle.channel_rep.proofs.Built.{root2_to}
 use Rattle.channel_rep.proofs.Norms.{norm_within, norm_below}
 use Rattle.channel_rep.proofs.Squares.{row_below, column_below, place_is}
-use Rattle.channel_rep.proofs.Grids.{grid, grid_identity, grid_norm, given_back, RotationDone, rotation_done_at, ReduceDone, reduce_done}
-use Rattle.channel_rep.proofs.TwoLists.{length-cells_of, cell_is, entry_is}
+use Rattle.channel_rep.proofs.Grids.{grid_identity, grid_norm, given_back, RotationDone, rotation_done_at, ReduceDone, reduce_done}
+use Rattle.channel_rep.proofs.TwoLists.{length-cells_of, cell_is}
 
 -- numbers of the identity
 pub narrow_identity : (n : ℕ) (a b : List ℤ) → 0 < n → n ≤ 3 → length a ≡ 4 ^ n * 4 ^ n → length b ≡ 4 ^ n * 4 ^ n → Agree surds (4 ^ n) (entries (4 ^ n) (cells_of a b)) (identity surds) → IsNarrow n 0 a b

@@ -1,6 +1,6 @@
 -- Rows of cells in two lists, turned and scaled.
 use Rattle.std.proofs.Common.{◌≡◌, ◌≢◌, ℕ, ◌+◌, ◌-◌, ◌*◌, ◌<◌, ◌≤◌, List, length, refl, ap, sym, ◌∙◌, subst, inl, inr, arith}
-use Rattle.std.specs.Prelude.{ℤ, pos, ◌*ℤ◌, ◌+ℤ◌, ◌-ℤ◌}
+use Rattle.std.specs.Prelude.{ℤ, pos, ◌*ℤ◌}
 use Rattle.std.proofs.lemmas.Bool.{cases_lt, cases_eq}
 use Rattle.std.proofs.lemmas.Int.{ints}
 use Rattle.std.proofs.Math.ListN.{set}
@@ -15,7 +15,6 @@ use Rattle.channel_rep.specs.Lanes.{number, most_small, IsSmall, AreApart, IsOut
 use Rattle.channel_rep.specs.Parts.{cells_of}
 use Rattle.channel_rep.proofs.Pairs.{again, small_fits, small_twice}
 use Rattle.channel_rep.proofs.Places.{row_before}
-use Rattle.channel_rep.proofs.Squares.{place-lt}
 use Rattle.channel_rep.proofs.TwoLists.{entry_is}
 
 -- different rows don't meet

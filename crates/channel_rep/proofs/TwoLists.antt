@@ -1,14 +1,13 @@
 -- Cells in two lists of numbers.
-use Rattle.std.proofs.Common.{◌≡◌, ◌≢◌, ℕ, ◌+◌, ◌*◌, ◌<◌, List, length, get_or, refl, ap, sym, ◌∙◌, inl, inr, arith}
+use Rattle.std.proofs.Common.{◌≡◌, ◌≢◌, ℕ, ◌+◌, ◌*◌, ◌<◌, List, length, get_or, ap, sym, ◌∙◌, inl, inr, arith}
 use Rattle.std.specs.Prelude.{ℤ, pos, ◌*ℤ◌, ◌/◌, ◌%◌}
-use Rattle.std.specs.Simd.Lanes.{zip2}
 use Rattle.std.proofs.lemmas.Bool.{cases_eq}
 use Rattle.std.proofs.lemmas.Int.{ints}
 use Rattle.std.proofs.lemmas.List.{same_lists, get_or_default}
 use Rattle.std.proofs.lemmas.Simd.{get_or-zip2, length-zip2}
 use Rattle.ring_laws.specs.Matrix.{identity, Agree}
 use Rattle.tc_ring.specs.Root2.{surd_of}
-use Rattle.tc_ring.specs.Surds.{Surd, surds, surd, surd_times, root2_surd, surd_integer}
+use Rattle.tc_ring.specs.Surds.{surds, surd, surd_times, root2_surd, surd_integer}
 use Rattle.tc_ring.specs.declared.root2.Root2.{Root2}
 use Rattle.tc_ring.proofs.Surds.{same_surd, root2_surd-times}
 use Rattle.channel_rep.specs.Cells.{cell_of, entries, no_cell}

@@ -4,19 +4,16 @@ use Rattle.std.specs.Prelude.{ℤ, pos, negsuc, neg_ℤ, nat_abs}
 use Rattle.std.proofs.lemmas.Bool.{cases_eq, cases_lt}
 use Rattle.std.proofs.lemmas.Int.{ints}
 use Rattle.std.proofs.lemmas.Nat.{mul-le}
-use Rattle.ring_laws.specs.Ring.{integers}
-use Rattle.ring_laws.specs.Matrix.{sum, product, identity}
+use Rattle.ring_laws.specs.Matrix.{product}
 use Rattle.ring_laws.proofs.Ring.{mul-zero, zero-mul}
-use Rattle.ring_laws.proofs.Sums.{sum_cong, sum_swap, sum_single}
-use Rattle.ring_laws.proofs.Integers.{integers_laws}
-use Rattle.tc_ring.specs.Surds.{Surd, surds, surd_integer, surd_negative, surd_times, zero_surd, one_surd}
-use Rattle.tc_ring.proofs.Surds.{surds_laws, same_surd, surd_times_comm}
+use Rattle.ring_laws.proofs.Sums.{sum_single}
+use Rattle.tc_ring.specs.Surds.{Surd, surd_integer, surd_negative, surd_times, zero_surd, one_surd}
+use Rattle.tc_ring.proofs.Surds.{surds_laws, same_surd}
 use Rattle.channel_rep.specs.Tables.{SurdTable}
 use Rattle.channel_rep.specs.Cells.{ChannelGrid, IsChannelGrid, table_of, IsUnit, HasOneUnit, IsSignedPermutation}
-use Rattle.channel_rep.specs.Norms.{HasNorm, transposed, HasOrthogonalColumns}
+use Rattle.channel_rep.specs.Norms.{HasOrthogonalColumns}
 use Rattle.channel_rep.proofs.Rules.{zero_at}
-use Rattle.channel_rep.proofs.OneUnit.{unit_is_not_zero}
-use Rattle.channel_rep.proofs.Norms.{square_weight, total, norm_total, norm_of_orthogonal, two_to}
+use Rattle.channel_rep.proofs.Norms.{square_weight, total, norm_total, norm_of_orthogonal}
 
 -- ---- sums of natural numbers
 -- numbers that add up to 0 are 0

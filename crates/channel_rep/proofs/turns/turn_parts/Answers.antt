@@ -1,4 +1,4 @@
-use Rattle.std.proofs.Common.{◌≡◌, ◌<◌, ap, sym, arith}
+use Rattle.std.proofs.Common.{◌<◌, ap, arith}
 use Rattle.tc_ring.specs.Surds.{surd_plus}
 use Rattle.channel_rep.specs.Cells.{entries}
 use Rattle.channel_rep.specs.Parts.{cells_of}

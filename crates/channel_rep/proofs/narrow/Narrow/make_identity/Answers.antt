@@ -1,4 +1,4 @@
-use Rattle.std.proofs.Common.{◌≡◌, ◌*◌, ◌^◌, ℕ, length, ap, ◌∙◌, subst}
+use Rattle.std.proofs.Common.{◌≡◌, ◌*◌, ◌^◌, length, ap, ◌∙◌, subst}
 use Rattle.ring_laws.specs.Matrix.{identity, Agree}
 use Rattle.tc_ring.specs.Surds.{surds}
 use Rattle.channel_rep.specs.Cells.{entries}

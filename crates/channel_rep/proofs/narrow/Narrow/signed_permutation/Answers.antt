@@ -1,4 +1,4 @@
-use Rattle.std.proofs.Common.{ap, sym, ◌∙◌, subst}
+use Rattle.std.proofs.Common.{ap, ◌∙◌, subst}
 use Rattle.std.proofs.lemmas.Bool.{eqb-true, eq-eqb}
 use Rattle.channel_rep.specs.Cells.{ChannelGrid, IsSignedPermutation}
 use Rattle.channel_rep.proofs.UnitNorms.{unit_permutation}
