@@ -1,4 +1,4 @@
-use Rattle.std.proofs.Common.{◌≡◌, ◌++◌, length, drop}
+use Rattle.std.proofs.Common.{◌≡◌, ◌++◌, drop}
 use Rattle.coset_words.proofs.Fronts.{AllCommute}
 use Rattle.coset_words.proofs.exchange.behind_letter.Given as goal
 

@@ -1,8 +1,7 @@
-use Rattle.std.proofs.Common.{◌≡◌, ◌+◌, ◌++◌, ◌∷◌, [], ℕ, List, length, take, refl, ap, sym, ◌∙◌, subst, arith, append-nil}
-use Rattle.std.proofs.Math.Seq.{take-length}
+use Rattle.std.proofs.Common.{◌++◌, ◌∷◌, ℕ, List, take, sym, ◌∙◌, subst, arith}
 use Rattle.coset_label.specs.Cosets.{SameCosetWords}
 use Rattle.coset_label.proofs.OneCoset.{coset_refl, coset_sym, coset_trans}
-use Rattle.coset_words.proofs.Fronts.{take_at, none_left}
+use Rattle.coset_words.proofs.Fronts.{take_at}
 use Rattle.coset_words.proofs.exchange.exchanges.Goals as goal
 
 pub loop-i-init : goal.loop-i-init
