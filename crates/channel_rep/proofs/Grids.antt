@@ -41,7 +41,7 @@ grid_within n k j cells lent most e valid r c l m =
     subst (λ xs. SurdWithin (2 ^ j) (entries (4 ^ n) xs r c)) (sym e) (norm_within (4 ^ n) k j (entries (4 ^ n) cells) (grid_norm (grid n k cells) valid) (omega arith) r c l m)
 
 -- cells that were lent as a slice, and written
-pub given_back : (len size : ℕ) (old lent new : List Root2) → lent ≡ old → length lent ≡ len → length old ≡ size → length new ≡ size → take len (new ++ drop (length new) old) ≡ new
+pub given_back : {A : Type 0} (len size : ℕ) (old lent new : List A) → lent ≡ old → length lent ≡ len → length old ≡ size → length new ≡ size → take len (new ++ drop (length new) old) ≡ new
 given_back len size old lent new same long before after =
     let e : len ≡ length new = sym long ∙ ap length same ∙ before ∙ sym after in
     ap (λ k. take k (new ++ drop (length new) old)) e ∙ take-append_seam new (drop (length new) old)

@@ -18,3 +18,8 @@ pub mod Lines
 pub mod Norms
 pub mod Products
 pub mod Undone
+mod Pairs
+mod TwoLists
+mod TurnedParts
+mod UnitNorms
+mod NarrowGrids

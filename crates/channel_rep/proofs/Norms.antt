@@ -5,7 +5,7 @@ use Rattle.std.specs.Prelude.{pos, ◌+ℤ◌, ◌*ℤ◌, nat_abs}
 use Rattle.std.specs.List.{AllByRecursion}
 use Rattle.std.proofs.lemmas.Bool.{cases_eq, cases_lt, cases_Bool, cond-true, cond-false}
 use Rattle.std.proofs.lemmas.Int.{ints}
-use Rattle.std.proofs.lemmas.Nat.{pow-add, mul-lt}
+use Rattle.std.proofs.lemmas.Nat.{pow-add, pow_pos, mul-lt, mul-le}
 use Rattle.std.proofs.Math.Nat.{pow-le-pow_right}
 use Rattle.ring_laws.specs.Ring.{integers, power}
 use Rattle.ring_laws.specs.Matrix.{sum, product, identity, Agree}
@@ -305,7 +305,7 @@ norm_of_orthogonal size k m h c l =
 
 -- ---- the bound by the norm
 -- a norm as a natural number
-abbrev square_weight : Surd → ℕ
+abbrev pub square_weight : Surd → ℕ
 square_weight x = nat_abs x.a * nat_abs x.a + 2 * (nat_abs x.b * nat_abs x.b)
 
 -- by squares
@@ -313,7 +313,7 @@ norm_is : (x : Surd) → norm x ≡ pos (square_weight x)
 norm_is x = λ i. square_is x.a i +ℤ pos 2 *ℤ square_is x.b i
 
 -- natural numbers added up
-total : ℕ → (ℕ → ℕ) → ℕ
+unfoldable pub total : ℕ → (ℕ → ℕ) → ℕ
 total zero f = 0
 total (suc n) f = total n f + f n
 
@@ -336,6 +336,22 @@ term-le (suc n) k f l = elim (cases_eq k n) [
 root_le : (n m : ℕ) → n * n ≤ m * m → n ≤ m
 root_le n m h = elim (cases_lt m n) [ inl l ↦ absurd (let over : m * m < n * n = mul-lt m m n n l l in omega arith) | inr l ↦ l ]
 
+-- no square is as large as that of a number that isn't larger
+root_lt : (n m : ℕ) → n * n < m * m → n < m
+root_lt n m h = elim (cases_lt n m) [ inl l ↦ l | inr l ↦ absurd (let over : m * m ≤ n * n = mul-le m m n n l l in omega arith) ]
+
+-- the weights of a column add up to its norm
+pub norm_total : (size k : ℕ) (m : SurdTable) → HasNorm size k m → (c : ℕ) → c < size → total size (λ r. square_weight (m r c)) ≡ 2 ^ k
+norm_total size k m h c l =
+    let column : pos (total size (λ r. square_weight (m r c))) ≡ pos (2 ^ k) = sym (total_is size (λ r. square_weight (m r c))) ∙ sym (sum_cong integers_laws size _ _ (λ r b. norm_is (m r c))) ∙ h c l in
+    omega (arith, ints, column)
+
+-- no entry weighs more than its column
+weight_le : (size k : ℕ) (m : SurdTable) → HasNorm size k m → (r c : ℕ) → r < size → c < size → square_weight (m r c) ≤ 2 ^ k
+weight_le size k m h r c l l' =
+    let term : square_weight (m r c) ≤ total size (λ r. square_weight (m r c)) = term-le size r (λ r. square_weight (m r c)) l in
+    omega (arith, norm_total size k m h c l')
+
 -- each entry of a table with the norm 2^k, where k is at most 2j, is within 2^j
 pub norm_within : (size k j : ℕ) (m : SurdTable) → HasNorm size k m → k ≤ j + j → (r c : ℕ) → r < size → c < size → SurdWithin (2 ^ j) (m r c)
 norm_within size k j m h most r c l l' =
@@ -343,13 +359,23 @@ norm_within size k j m h most r c l l' =
     let b : nat_abs (m r c).b ≤ 2 ^ j = root_le (nat_abs (m r c).b) (2 ^ j) (omega (arith, bound)) in
     record { low_a = omega (arith, ints); high_a = omega (arith, ints); low_b = omega (arith, ints); high_b = omega (arith, ints) }
   where
-    column : pos (total size (λ r. square_weight (m r c))) ≡ pos (2 ^ k)
-    column = sym (total_is size (λ r. square_weight (m r c))) ∙ sym (sum_cong integers_laws size _ _ (λ r b. norm_is (m r c))) ∙ h c l'
-
     bound : square_weight (m r c) ≤ 2 ^ j * 2 ^ j
     bound =
-        let whole : total size (λ r. square_weight (m r c)) ≡ 2 ^ k = omega (arith, ints, column) in
-        let term : square_weight (m r c) ≤ total size (λ r. square_weight (m r c)) = term-le size r (λ r. square_weight (m r c)) l in
         let more : 2 ^ k ≤ 2 ^ (j + j) = pow-le-pow_right {n = 2} (lit< tt) most in
         let square : 2 ^ (j + j) ≡ 2 ^ j * 2 ^ j = pow-add 2 j j in
-        omega arith
+        omega (arith, weight_le size k m h r c l l')
+
+-- and where k is below 2j, it is below 2^j
+pub norm_below : (size k j most : ℕ) (m : SurdTable) → HasNorm size k m → k < j + j → most + 1 ≡ 2 ^ j → (r c : ℕ) → r < size → c < size → SurdWithin most (m r c)
+norm_below size k j most m h less e r c l l' =
+    let a : nat_abs (m r c).a < 2 ^ j = root_lt (nat_abs (m r c).a) (2 ^ j) (omega (arith, bound)) in
+    let b : nat_abs (m r c).b < 2 ^ j = root_lt (nat_abs (m r c).b) (2 ^ j) (omega (arith, bound)) in
+    record { low_a = omega (arith, ints); high_a = omega (arith, ints); low_b = omega (arith, ints); high_b = omega (arith, ints) }
+  where
+    bound : square_weight (m r c) < 2 ^ j * 2 ^ j
+    bound =
+        let next : k + 1 ≤ j + j = omega arith in
+        let more : 2 ^ (k + 1) ≤ 2 ^ (j + j) = pow-le-pow_right {n = 2} (lit< tt) next in
+        let double : 2 ^ (k + 1) ≡ 2 ^ k * 2 = pow-add 2 k 1 in
+        let square : 2 ^ (j + j) ≡ 2 ^ j * 2 ^ j = pow-add 2 j j in
+        omega (arith, weight_le size k m h r c l l', pow_pos k)

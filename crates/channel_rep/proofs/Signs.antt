@@ -1,5 +1,5 @@
 -- Lemmas for the crates above: numbers with a sign.
-use Rattle.std.proofs.Common.{◌≡◌, ℕ, Bool, true, false, not, refl, ap, sym, ◌∙◌}
+use Rattle.std.proofs.Common.{◌≡◌, Bool, true, false, not, refl, ap, sym, ◌∙◌}
 use Rattle.ring_laws.proofs.Ring.{one-mul, neg-mul, mul-neg, neg-neg}
 use Rattle.tc_ring.specs.Surds.{Surd, surd_integer, surd_plus, surd_times, surd_negative, zero_surd, one_surd}
 use Rattle.tc_ring.proofs.Surds.{surds_laws, surd_plus_comm, surd_plus-negative}

@@ -8,3 +8,5 @@ pub mod Conjugations
 pub mod Words
 pub mod Products
 pub mod Laws
+pub mod Lanes
+pub mod Parts

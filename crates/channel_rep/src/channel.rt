@@ -14,7 +14,7 @@ use crate::halves::divide_out;
 use crate::rows::cell_at;
 use crate::steps::{codes, conjugate_rows, move_rows, rotate_rows};
 use crate::units::{is_signed_permutation, unit_of_column};
-use crate::{ChannelGate, Conjugation};
+use crate::{ChannelGate, Conjugation, Narrow};
 use pauli_basis::Pauli;
 use std::alloc::{AllocError, Global};
 use std::marker::Model;
@@ -223,6 +223,23 @@ impl Channel {
     {
         let size = codes(self.n);
         &self.cells[row * size..(row + 1) * size]
+    }
+
+    /// The cells, row by row, before they are divided.
+    pub(crate) fn cells(&self) -> &[Root2]
+        ensures cells { result.now ≡ self.now.cells }
+        ensures valid { IsChannelGrid self.now }
+    {
+        &self.cells
+    }
+
+    /// Makes the channel into that of a narrow one, of as many qubits.
+    pub fn copy_from_narrow(&mut self, o: &Narrow)
+        requires { self.old.qubits ≡ o.now.qubits }
+        ensures { self.new ≡ o.now }
+    {
+        self.k = o.exponent();
+        o.write_cells(&mut self.cells);
     }
 
     /// Makes the channel into another of as many qubits.

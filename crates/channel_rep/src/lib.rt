@@ -9,6 +9,9 @@
 //! A run of Clifford gates is held as a `Conjugation`: what it makes of each Pauli, in 64 bytes. A gate more changes these
 //! bytes alone, and a channel takes the whole run in one pass over its rows.
 //!
+//! The search for words uses rows of numbers of sixteen bits: a `Narrow` stands for the same tables, up to a smaller exponent, and
+//! its rotations turn sixteen pairs of numbers at once.
+//!
 //! Each change says that the table becomes the product of the step's table with the one before, the sum over the middle
 //! index. No complex matrix occurs here.
 #![tactic(auto)]
@@ -17,14 +20,21 @@ mod channel;
 mod conjugation;
 mod gate;
 mod halves;
+mod lanes;
 pub mod laws;
+mod narrow;
+mod parts;
 mod rows;
 mod steps;
+mod turns;
 mod units;
 
 pub use channel::{Channel, MOST_EXPONENT};
 pub use conjugation::Conjugation;
 pub use gate::ChannelGate;
+pub use narrow::{MOST_NARROW_EXPONENT, Narrow};
 
+#[cfg(test)]
+mod narrow_tests;
 #[cfg(test)]
 mod tests;

@@ -7,7 +7,7 @@ use std::test::Fail;
 use tc_ring::Root2;
 
 /// A Pauli other than the identity.
-fn pauli(n: u8, code: u8) -> Result<Pauli, &'static str>
+pub fn pauli(n: u8, code: u8) -> Result<Pauli, &'static str>
     ensures qubits { IfOk result (λ p. p.qubits ≡ n) }
     ensures other { IfOk result (λ p. p.code ≢ 0) }
 {

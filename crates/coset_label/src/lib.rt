@@ -14,7 +14,8 @@ mod sums;
 mod word;
 
 pub use scratch::{
-    Scratch, channel_of_word, label_into, label_of_front, label_of_word, lies_in, same_label, tag,
+    Scratch, channel_of_word, label_into, label_narrow, label_of_front, label_of_word, lies_in,
+    narrow_of_word, same_label, tag,
 };
 pub use word::Word;
 

@@ -14,7 +14,7 @@ use crate::Word;
 use crate::columns::{columns_of, find_leads, sort_columns};
 use crate::same::same_columns;
 use crate::sums::{label_fold, mixed};
-use channel_rep::Channel;
+use channel_rep::{Channel, Narrow};
 use pauli_basis::Pauli;
 use std::alloc::{AllocError, Global};
 use std::marker::Model;
@@ -68,6 +68,22 @@ pub fn channel_of_word(word: Word, channel: &mut Channel)
     while left > 0 {
         left -= 1;
         channel.left_rotation(word.letter(left));
+    }
+}
+
+/// The same in narrow rows.
+pub fn narrow_of_word(word: Word, narrow: &mut Narrow)
+    requires { word.qubits ≡ narrow.old.qubits }
+    ensures qubits { narrow.new.qubits ≡ narrow.old.qubits }
+    ensures built { IsBuiltOf narrow.old.qubits (word_steps word.letters) (scaled narrow.new) }
+    ensures exponent { narrow.new.exponent ≡ length word.letters }
+    ensures valid { IsShortWord word }
+{
+    narrow.make_identity();
+    let mut left = word.len();
+    while left > 0 {
+        left -= 1;
+        narrow.left_rotation(word.letter(left));
     }
 }
 
@@ -137,6 +153,18 @@ pub fn label_into(c: &Channel, s: &mut Scratch)
     ensures label { IsLabelOf c.now.qubits (scaled c.now) s.new.label }
 {
     s.channel.copy_from(c);
+    put_in_order(&s.channel, &mut s.leads, &mut s.negative, &mut s.order);
+}
+
+/// Makes `s` hold the label of a channel in narrow rows that has the least exponent: the one that a [`Channel`] of the same
+/// value has.
+pub fn label_narrow(c: &Narrow, s: &mut Scratch)
+    requires same { c.now.qubits ≡ s.old.qubits }
+    requires reduced { IsReduced c.now }
+    ensures qubits { s.new.qubits ≡ s.old.qubits }
+    ensures label { IsLabelOf c.now.qubits (scaled c.now) s.new.label }
+{
+    s.channel.copy_from_narrow(c);
     put_in_order(&s.channel, &mut s.leads, &mut s.negative, &mut s.order);
 }
 

@@ -3,10 +3,10 @@ ghost use Rattle.channel_rep.specs.Cells.{most_exponent};
 ghost use Rattle.coset_label.specs.Words.{most_letters};
 
 use crate::{
-    Scratch, Word, channel_of_word, label_into, label_of_front, label_of_word, lies_in, same_label,
-    tag,
+    Scratch, Word, channel_of_word, label_into, label_narrow, label_of_front, label_of_word,
+    lies_in, narrow_of_word, same_label, tag,
 };
-use channel_rep::Channel;
+use channel_rep::{Channel, Narrow};
 use pauli_basis::Pauli;
 use std::alloc::{AllocError, Global};
 use std::process::Abort;
@@ -125,6 +125,50 @@ fn a_channel_has_the_label_of_its_word(rt: HostRuntime) -> Result<(), Fail> {
     assert!(rt; !same_label(&s, &other));
     label_of_word(word(3, &[27, 54])?, &mut other);
     assert!(rt; same_label(&s, &other));
+    Ok(())
+}
+
+#[test]
+fn narrow_rows_have_the_label_of_their_channel(rt: HostRuntime) -> Result<(), Fail> {
+    let z = pauli(1, 3)?;
+    let mut c = Channel::identity(rt.alloc(), 1)?;
+    c.left_rotation(z);
+    c.reduce();
+    let mut m = Narrow::new(rt.alloc(), 1)?;
+    m.left_rotation(z);
+    m.reduce();
+    let mut s = Scratch::new(rt.alloc(), 1)?;
+    let mut t = Scratch::new(rt.alloc(), 1)?;
+    label_into(&c, &mut s);
+    label_narrow(&m, &mut t);
+    assert!(rt; same_label(&s, &t));
+    assert_eq!(rt; (tag(&t), t.exponent()), (tag(&s), s.exponent()));
+    Ok(())
+}
+
+#[test]
+fn narrow_rows_have_the_label_of_their_word(rt: HostRuntime) -> Result<(), Fail> {
+    let rows: [(u8, &[u8]); 5] = [
+        (1, &[]),
+        (1, &[1, 2, 3, 1, 2, 3, 1, 2, 3]),
+        (2, &[1, 6, 11, 12, 7, 9]),
+        (2, &[5, 5]),
+        (3, &[1, 4, 16, 21]),
+    ];
+    for (n, codes) in rows {
+        if 0 < n && n <= 3 {
+            let w = word(n, codes)?;
+            let mut m = Narrow::new(rt.alloc(), n)?;
+            narrow_of_word(w, &mut m);
+            assert_eq!(rt; m.exponent(), w.len() as u32);
+            m.reduce();
+            let mut s = Scratch::new(rt.alloc(), n)?;
+            let mut t = Scratch::new(rt.alloc(), n)?;
+            label_of_word(w, &mut s);
+            label_narrow(&m, &mut t);
+            assert!(rt; same_label(&s, &t), "{codes:?}");
+        }
+    }
     Ok(())
 }
 

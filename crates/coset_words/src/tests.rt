@@ -2,7 +2,7 @@ ghost use Rattle.std.specs.Prelude.{◌≡◌, ◌≢◌, ◌<◌, ◌≤◌, le
 ghost use Rattle.coset_label.specs.Words.{most_letters};
 
 use crate::{Mark, exchanges, mark_of, of_one_coset};
-use channel_rep::Channel;
+use channel_rep::Narrow;
 use coset_label::{Scratch, Word, label_of_word, same_label};
 use pauli_basis::Pauli;
 use std::alloc::Global;
@@ -78,7 +78,7 @@ fn words_lie_in_one_coset(rt: HostRuntime) -> Result<(), Fail> {
         if 0 < n && n <= 3 {
             let v = word(n, codes)?;
             let w = word(n, others)?;
-            let mut room = Channel::identity(rt.alloc(), n)?;
+            let mut room = Narrow::new(rt.alloc(), n)?;
             assert_eq!(rt; exchanges(v, w), exchanged, "{codes:?} and {others:?}");
             assert_eq!(rt;
                 of_one_coset(v, w, &mut room),
@@ -93,7 +93,7 @@ fn words_lie_in_one_coset(rt: HostRuntime) -> Result<(), Fail> {
 #[test]
 fn words_of_one_coset_have_equal_labels(rt: HostRuntime) -> Result<(), Fail> {
     for pair in 0..81u8 {
-        let mut room = Channel::identity(rt.alloc(), 1)?;
+        let mut room = Narrow::new(rt.alloc(), 1)?;
         let mut label = Scratch::new(rt.alloc(), 1)?;
         let mut other = Scratch::new(rt.alloc(), 1)?;
         let v = word(1, &[pair % 3 + 1, pair / 3 % 3 + 1])?;

@@ -11,7 +11,7 @@ ghost use Rattle.level_store.specs.Stored.{qubits_of_all, levels_of, letters_in,
 use crate::hand::{Hand, hands_of, seats_of};
 use crate::level::Level;
 use crate::levels::Levels;
-use channel_rep::Channel;
+use channel_rep::Narrow;
 use coset_label::Word;
 use coset_table::{Buckets, OpenTable, start_table};
 use coset_words::Mark;
@@ -100,7 +100,7 @@ impl Levels {
     }
 
     /// Whether the coset of a word stands neither in the last level nor in the one below.
-    fn is_new(&self, word: Word, mark: Mark, room: &mut Channel) -> bool
+    fn is_new(&self, word: Word, mark: Mark, room: &mut Narrow) -> bool
         requires qubits { word.qubits ≡ qubits_of_all self.now }
         requires mark { IsMarkOf word.qubits word.letters mark }
         requires room { room.old.qubits ≡ word.qubits }

@@ -6,14 +6,14 @@ ghost use Rattle.coset_table.specs.Capacity.{IsShape};
 ghost use Rattle.coset_table.specs.Ends.{IsFull, IsReached, Stands};
 ghost use Rattle.level_store.specs.Probes.{HaveTag, IsMissed};
 
-use channel_rep::Channel;
+use channel_rep::Narrow;
 use coset_label::Word;
 use coset_table::{Shape, place_behind, word_of_bucket};
 use coset_words::of_one_coset;
 
 /// The word of a bucket word, where it lies in the coset of a word with a tag. It compares letters only where the tags are
 /// equal.
-fn word_beside(shape: Shape, found: u64, tag: u64, word: Word, room: &mut Channel) -> Option<Word>
+fn word_beside(shape: Shape, found: u64, tag: u64, word: Word, room: &mut Narrow) -> Option<Word>
     requires shape { IsShape shape }
     requires found { IsBucketWord shape found }
     requires qubits { word.qubits ≡ shape.qubits }
@@ -42,7 +42,7 @@ pub fn probe_word(
     words: &[u64],
     tag: u64,
     word: Word,
-    room: &mut Channel,
+    room: &mut Narrow,
 ) -> Option<Word>
     requires shape { IsShape shape }
     requires long { length words.now ≡ shape.capacity }

@@ -2,7 +2,7 @@
 ghost use Rattle.std.specs.Prelude.{◌≡◌, ◌<◌, ◌≤◌, All, IfOk, map};
 ghost use Rattle.level_store.specs.Hands.{IsHand};
 
-use channel_rep::Channel;
+use channel_rep::Narrow;
 use coset_label::Scratch;
 use coset_table::TableSeat;
 use quick_label::Suffix;
@@ -14,7 +14,7 @@ use std::alloc::{AllocError, Global};
 pub struct Hand {
     pub(crate) seat: TableSeat,
     pub(crate) label: Scratch,
-    pub(crate) room: Channel,
+    pub(crate) room: Narrow,
     pub(crate) suffix: Suffix,
 }
 
@@ -29,7 +29,7 @@ impl Hand {
         Ok(Hand {
             seat,
             label: Scratch::new(alloc, n)?,
-            room: Channel::identity(alloc, n)?,
+            room: Narrow::identity(alloc, n)?,
             suffix: Suffix::new(alloc, n)?,
         })
     }

@@ -7,8 +7,8 @@ use Rattle.coset_words.proofs.comparison.lies_in_coset.Given as goal
 
 abbrev pub invariant-loop-i : goal.invariant-loop-i
 invariant-loop-i l = record {
-  qubits : l.channel.qubits ≡ l.word.qubits;
-  reduced : IsReduced l.channel;
-  circuit : IsCircuitChannel l.word.qubits (scaled l.fn.channel) → IsCircuitChannel l.word.qubits (scaled l.channel);
-  coset : SameCoset l.word.qubits (scaled l.fn.channel) (word_channel l.word.qubits l.word.letters) ↔ SameCoset l.word.qubits (scaled l.channel) (word_channel l.word.qubits (drop l.i l.word.letters));
+  qubits : l.narrow.qubits ≡ l.word.qubits;
+  reduced : IsReduced l.narrow;
+  circuit : IsCircuitChannel l.word.qubits (scaled l.fn.narrow) → IsCircuitChannel l.word.qubits (scaled l.narrow);
+  coset : SameCoset l.word.qubits (scaled l.fn.narrow) (word_channel l.word.qubits l.word.letters) ↔ SameCoset l.word.qubits (scaled l.narrow) (word_channel l.word.qubits (drop l.i l.word.letters));
 }
