@@ -1,6 +1,8 @@
 pub mod Shapes
-pub mod Grammar
 pub mod Splits
+pub mod Arguments
+pub mod Entries
+pub mod Grammar
 pub mod Lookups
 pub mod Placing
 pub mod Registers

@@ -16,7 +16,8 @@ use Rattle.qasm_reader.specs.State.{Register, value, find_register, qubits_of, g
 use Rattle.qasm_reader.specs.Rows.{Statement, ends, foreign, is_foreign, is_call, has_other_arity, has_bare, includes_other, is_outside, is_no_statement, is_not_in_profile, applies}
 use Rattle.qasm_reader.specs.Within.{IsIndexed, IncludesAreTaken, RegistersAreTaken, GatesAreTaken}
 use Rattle.qasm_reader.proofs.Shapes.{not_ident, not_kind, from_mark}
-use Rattle.qasm_reader.proofs.Grammar.{parts, free_is, front_of, whole_is}
+use Rattle.qasm_reader.proofs.Arguments.{parts, free_is}
+use Rattle.qasm_reader.proofs.Grammar.{front_of, end_of, whole_is, closer_is}
 use Rattle.qasm_reader.proofs.Lookups.{ends_push}
 use Rattle.qasm_reader.proofs.Takeable.{or_false}
 use Rattle.qasm_reader.proofs.Order.{all_unmet}

@@ -63,7 +63,7 @@ fn has_stranger<'a>(set: &BTreeSet<&'a [u8]>, args: &[&'a [u8]]) -> bool
 
 // Whether a gate of this size isn't known, takes another number of arguments, or has one twice.
 fn is_bad_call(alloc: Global, size: Option<Size>, args: &[&[u8]]) -> Result<bool, AllocError>
-    ensures { IfOk result (λ bad. bad ≡ is_bad_call (option_map (λ z. z.arity) size.entry) (name_list args.now)) }
+    ensures { IfOk result (λ bad. bad ≡ is_bad_call (option_map (λ z. z.arity) size) (name_list args.now)) }
 {
     match size {
         None => Ok(true),
@@ -117,7 +117,7 @@ pub(crate) const NOTHING: Size = Size {
 };
 
 fn size_or_nothing(size: Option<Size>) -> Size
-    ensures { result ≡ size_or_nothing size.entry }
+    ensures { result ≡ size_or_nothing size }
 {
     size.unwrap_or(NOTHING)
 }

@@ -60,7 +60,7 @@ pub(crate) fn push_gates(
 ) -> Result<(), AllocError>
     requires { IsCircuit circuit.old.qubits (gates_with size gates.now qubits.now) }
     ensures qubits { circuit.new.qubits ≡ circuit.old.qubits }
-    ensures gates { OnOk result (circuit.new.gates ≡ circuit.old.gates ++ gates_with size.entry gates.now qubits.now) }
+    ensures gates { OnOk result (circuit.new.gates ≡ circuit.old.gates ++ gates_with size gates.now qubits.now) }
 {
     match size {
         None => Ok(()),
@@ -97,7 +97,7 @@ pub(crate) fn times(arity: usize, count: usize, qubits: usize) -> usize
 
 // How many T gates a gate of this size, which may be known, has on these qubits, or the greatest number where it has more.
 pub(crate) fn t_count_at(size: Option<Size>, qubits: &[u8]) -> usize
-    ensures { result ≡ min (count_at (λ z. z.t_count) size.entry (length qubits.now)) usize.MAX }
+    ensures { result ≡ min (count_at (λ z. z.t_count) size (length qubits.now)) usize.MAX }
 {
     match size {
         None => 0,
@@ -107,7 +107,7 @@ pub(crate) fn t_count_at(size: Option<Size>, qubits: &[u8]) -> usize
 
 // How many gates it has on them, or the greatest number where it has more.
 pub(crate) fn length_at(size: Option<Size>, qubits: &[u8]) -> usize
-    ensures { result ≡ min (count_at (λ z. z.length) size.entry (length qubits.now)) usize.MAX }
+    ensures { result ≡ min (count_at (λ z. z.length) size (length qubits.now)) usize.MAX }
 {
     match size {
         None => 0,

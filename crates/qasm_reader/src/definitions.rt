@@ -30,7 +30,7 @@ pub(crate) fn definition_of<'b, 'a>(
 }
 
 fn size_of(gate: Known) -> Size
-    ensures { result ≡ size_of (known_gate gate) }
+    ensures { result ≡ size_of (known_gate gate.entry) }
 {
     Size {
         arity: gate.arity,

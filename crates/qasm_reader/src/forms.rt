@@ -43,6 +43,7 @@ pub(crate) enum Form<'a> {
 }
 
 // The lexemes without one of the kind at their end, if it is there.
+#[tactic(auto, unfolding(crate::specs::Parse::without_last))]
 fn without_last<'b, 'a>(ws: &'b [Lexeme<'a>], kind: Kind) -> Option<&'b [Lexeme<'a>]>
     ensures { option_map (λ b. lexemes b.now) result ≡ without_last kind (lexemes ws.now) }
 {

@@ -88,7 +88,7 @@ fn is_outside_profile(statement: &[Lexeme]) -> bool
 }
 
 fn takes_other(size: Option<Size>, n: usize) -> bool
-    ensures { result ≡ takes_other (option_map (λ z. z.arity) size.entry) n }
+    ensures { result ≡ takes_other (option_map (λ z. z.arity) size) n }
 {
     match size {
         Some(size) => size.arity != n,
@@ -97,7 +97,7 @@ fn takes_other(size: Option<Size>, n: usize) -> bool
 }
 
 fn has_other_arity(size: Option<Size>, found: &Option<Form>) -> bool
-    ensures { result ≡ has_other_arity (option_map (λ z. z.arity) size.entry) (option_map form found.now) }
+    ensures { result ≡ has_other_arity (option_map (λ z. z.arity) size) (option_map form found.now) }
 {
     match found {
         Some(Form::Apply(_, list)) => takes_other(size, list.len()),
@@ -127,7 +127,7 @@ fn has_no_index(list: &[Argument]) -> bool
 }
 
 fn takes_bare(size: Option<Size>, list: &[Argument]) -> bool
-    ensures { result ≡ takes_bare (option_map (λ z. z.arity) size.entry) (arguments list.now) }
+    ensures { result ≡ takes_bare (option_map (λ z. z.arity) size) (arguments list.now) }
 {
     match size {
         Some(size) => size.arity > 1 && size.arity == list.len() && has_no_index(list),
@@ -136,7 +136,7 @@ fn takes_bare(size: Option<Size>, list: &[Argument]) -> bool
 }
 
 fn has_bare(size: Option<Size>, found: &Option<Form>) -> bool
-    ensures { result ≡ has_bare (option_map (λ z. z.arity) size.entry) (option_map form found.now) }
+    ensures { result ≡ has_bare (option_map (λ z. z.arity) size) (option_map form found.now) }
 {
     match found {
         Some(Form::Apply(_, list)) => takes_bare(size, list),
@@ -259,7 +259,7 @@ fn is_taken<'a>(scan: &Scan<'a>, found: &Option<Form<'a>>) -> bool
 }
 
 fn is_unknown(size: Option<Size>, found: &Option<Form>) -> bool
-    ensures { result ≡ is_unknown (option_map (λ z. z.arity) size.entry) (option_map form found.now) }
+    ensures { result ≡ is_unknown (option_map (λ z. z.arity) size) (option_map form found.now) }
 {
     match found {
         Some(Form::Apply(_, _)) => size.is_none(),
