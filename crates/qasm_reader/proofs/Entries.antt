@@ -1,5 +1,5 @@
 -- The bodies of definitions: how they are spelled and found.
-use Rattle.std.proofs.Common.{◌≡◌, ℕ, Bool, true, false, cond, ◌==◌, List, [], ◌∷◌, ◌++◌, length, map, take, drop, Option, Some, None, arith, ap, ◌∙◌, sym, refl, subst, ⊎_elim, append_assoc}
+use Rattle.std.proofs.Common.{◌≡◌, ℕ, Bool, true, false, cond, ◌==◌, List, [], ◌∷◌, ◌++◌, length, map, take, drop, Option, Some, None, arith, ap, ◌∙◌, sym, refl, subst, ⊎_elim, append_assoc, append-nil}
 use Rattle.std.proofs.lemmas.List.{map-append, take-append-drop}
 use Rattle.std.specs.Prelude.{codes, option_map, option_and_then}
 use Rattle.std.specs.List.{AllByRecursion, slice_split, position_or_len, flat_map}
@@ -10,7 +10,7 @@ use Rattle.qasm_reader.specs.Lexemes.{Lexeme, code_of, is_kind, is_ident, is_fre
 use Rattle.qasm_reader.specs.Forms.{Shape, shape, ident, mark, Argument, arguments, bare, names, Entry, Bar, Call, entry, Form, Define, AreArguments, AreNames, IsEntry}
 use Rattle.qasm_reader.specs.Parse.{consed, all_some, arguments_at, bare_name, names_of, names_at, entry_at, entries_in, entries_at, entries_behind, both, definition_at}
 use Rattle.qasm_reader.proofs.Shapes.{to_mark, from_mark, to_ident, from_ident, to_name, from_name, not_ident}
-use Rattle.qasm_reader.proofs.Splits.{position_yes, position_no}
+use Rattle.qasm_reader.proofs.Splits.{position_yes, position_no, FirstPart, split_of}
 use Rattle.qasm_reader.proofs.Arguments.{mapped, tested, consed_is, and_then_is, chosen, IsJoin, join_split, IsList, arguments_are, are_arguments, Without, without_append, IsApart, arguments_apart, split_first, Parts, parts, free_is}
 
 -- arguments without an index are names
@@ -257,3 +257,43 @@ is_definition (n ∷ ws) name list body h =
         let behind : entries_behind (drop (position_or_len (is_kind LeftBrace) ws) ws) ≡ Some body =
         ap (λ (l : List Lexeme). entries_behind (drop (position_or_len (is_kind LeftBrace) l) l)) whole ∙ ap entries_behind up.1 ∙ are_entries body ys (cc (second), h.3) in
         rw (t.0, before, behind, t.1) refl
+
+-- a part before others is the first entry
+entries_cons : (front : List Lexeme) (ps : List (List Lexeme)) (ws : List Lexeme) → IsJoin Semi ws ps → entries_in (front ∷ ps) ≡ consed (entry_at front) (entries_in ps)
+entries_cons front [] ws j = absurd j
+entries_cons [] (p ∷ ps) ws j = refl
+entries_cons (w ∷ front) (p ∷ ps) ws j = refl
+
+-- where no `;` follows what is left, there are no entries
+pub unended_entries : (all part more : List Lexeme) → FirstPart Semi all part more → more ≡ [] → (all ≡ [] → ⊥) → entries_at all ≡ None
+unfolding entries_at
+unended_entries all part more f m some =
+    let split = (split_of Semi all part more f).0 m in
+    let whole : all ≡ part = sym (take-append-drop f.size all) ∙ ap (λ (l : List Lexeme). take f.size all ++ l) (sym f.rest ∙ m) ∙ append-nil (take f.size all) ∙ sym f.front in
+    ap entries_in split ∙ go part (λ e. some (whole ∙ e))
+  where
+    go : (p : List Lexeme) → (p ≡ [] → ⊥) → entries_in (p ∷ []) ≡ None
+    go [] n = absurd (n refl)
+    go (w ∷ p) n = refl
+
+-- behind the first entry the rest is read
+pub next_entries : (all part more : List Lexeme) → FirstPart Semi all part more → (more ≡ [] → ⊥) → entries_at all ≡ consed (entry_at part) (entries_at (drop 1 more))
+unfolding entries_at
+next_entries all part [] f m = absurd (m refl)
+next_entries all part (w ∷ ys) f m =
+    ap entries_in ((split_of Semi all part (w ∷ ys) f).1 w ys refl) ∙ entries_cons part (slice_split (is_kind Semi) ys) ys (join_split Semi ys)
+
+-- no lexemes are no entries
+pub no_entries : entries_at [] ≡ Some []
+unfolding entries_at
+no_entries = refl
+
+-- the names of one argument and others
+pub next_names : (a : Argument) (args : List Argument) → names_of (a ∷ args) ≡ consed (bare_name a) (names_of args)
+unfolding names_of
+next_names a args = refl
+
+-- no arguments are no names
+pub no_names : names_of [] ≡ Some []
+unfolding names_of
+no_names = refl
