@@ -8,10 +8,11 @@ pub mod Placing
 pub mod Registers
 pub mod Cut
 pub mod Order
+pub mod Places
 pub mod Takeable
+pub mod Kept
 pub mod Outcomes
 pub mod Names
-mod Lengths
 mod Small
 mod Within
 mod Halving

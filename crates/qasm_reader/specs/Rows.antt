@@ -42,14 +42,17 @@ is_call [] = false
 is_call (w ∷ []) = false
 is_call (w ∷ v ∷ ws) = is_name w && is_kind LeftParen v
 
--- a parenthesis, or a word for a gate with parameters or of the standard's own
+-- a parenthesis, or a word of the standard's own gates
 abbrev pub is_beyond_bodies : Lexeme → Bool
 is_beyond_bodies w = is_kind LeftParen w || (is_ident (codes "U") w || is_ident (codes "CX") w)
 
--- a definition of a gate that has parameters, or stands on others than the defined gates
+abbrev pub is_definition : List Lexeme → Bool
+is_definition [] = false
+is_definition (w ∷ ws) = is_ident (codes "gate") w
+
+-- a definition of a gate that has parameters, or stands on the standard's own gates
 abbrev pub is_wide_definition : List Lexeme → Bool
-is_wide_definition [] = false
-is_wide_definition (w ∷ ws) = is_ident (codes "gate") w && list_any is_beyond_bodies (w ∷ ws)
+is_wide_definition ws = is_definition ws && list_any is_beyond_bodies ws
 
 -- a statement of OpenQASM 2.0 outside the profile, by its tokens
 abbrev pub is_outside_profile : List Lexeme → Bool

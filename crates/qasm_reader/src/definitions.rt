@@ -22,7 +22,7 @@ pub(crate) fn definition_of<'b, 'a>(
     let mut end = list.len();
     'definitions: while end > 0 {
         end -= 1;
-        if list[end].definition.name == name {
+        if name == list[end].definition.name {
             return Some(&list[end]);
         }
     }

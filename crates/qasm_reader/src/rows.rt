@@ -3,7 +3,7 @@ ghost use Rattle.std.specs.Prelude.{◌≡◌, Option, option_map, is_none, is_s
 ghost use Rattle.std.specs.Str.{bytes_eq};
 ghost use Rattle.std.specs.List.{list_any};
 ghost use Rattle.qasm_reader.specs.State.{find_register};
-ghost use Rattle.qasm_reader.specs.Rows.{ends, is_foreign, is_call, is_beyond_bodies, is_wide_definition, is_outside_profile, takes_other, has_other_arity, is_no_statement, takes_bare, has_bare, includes_other, is_not_in_profile, withheld, is_taken, is_unknown, arguments_of, has_no_register, is_outside, is_empty_size, has_bad_index, has_too_many_qubits, has_too_many_t, has_too_many_gates, applies, row_of};
+ghost use Rattle.qasm_reader.specs.Rows.{ends, is_foreign, is_call, is_beyond_bodies, is_definition, is_wide_definition, is_outside_profile, takes_other, has_other_arity, is_no_statement, takes_bare, has_bare, includes_other, is_not_in_profile, withheld, is_taken, is_unknown, arguments_of, has_no_register, is_outside, is_empty_size, has_bad_index, has_too_many_qubits, has_too_many_t, has_too_many_gates, applies, row_of};
 ghost use Rattle.qasm_reader.specs.View.{lexeme, lexemes, form, argument, arguments, register, registers, statement_of, IsBehind, AreKept, state};
 
 use crate::circuits::{length_at, t_count_at};
@@ -23,10 +23,9 @@ use qasm_lex::Kind;
 fn ends(statement: &[Lexeme]) -> bool
     ensures { result ≡ ends (lexemes statement.now) }
 {
-    match statement {
-        [] => false,
-        [only] => is_kind(only, closer(only)),
-        [first, .., last] => is_kind(last, closer(first)),
+    match statement.split_last() {
+        Some((last, _)) => is_kind(last, closer(&statement[0])),
+        None => false,
     }
 }
 
@@ -70,14 +69,26 @@ fn any_beyond_bodies(ws: &[Lexeme]) -> bool
     ws.iter().any(|w| is_beyond_bodies(w))
 }
 
+fn has_beyond_bodies(ws: &[Lexeme]) -> bool
+    ensures { result ≡ list_any is_beyond_bodies (lexemes ws.now) }
+{
+    any_beyond_bodies(ws)
+}
+
+fn is_definition(statement: &[Lexeme]) -> bool
+    ensures { result ≡ is_definition (lexemes statement.now) }
+{
+    match statement {
+        [] => false,
+        [first, ..] => is_ident(first, b"gate".as_slice()),
+    }
+}
+
 // Whether it is a definition of a gate that has parameters, or stands on the standard's own gates.
 fn is_wide_definition(statement: &[Lexeme]) -> bool
     ensures { result ≡ is_wide_definition (lexemes statement.now) }
 {
-    match statement {
-        [] => false,
-        [first, ..] => is_ident(first, b"gate".as_slice()) && any_beyond_bodies(statement),
-    }
+    is_definition(statement) && has_beyond_bodies(statement)
 }
 
 // Whether it is a statement of OpenQASM 2.0 outside the profile, by its tokens.

@@ -1,0 +1,117 @@
+-- What is kept of definitions, one after another.
+use Rattle.std.proofs.Common.{◌≡◌, ℕ, zero, suc, ◌+◌, ◌<◌, ◌≤◌, Bool, true, false, cond, List, [], ◌∷◌, ◌++◌, length, take, get_or, Option, Some, None, arith, ap, ◌∙◌, sym, refl, subst, ⊎_elim}
+use Rattle.std.specs.Str.{bytes_eq}
+use Rattle.std.specs.Prelude.{option_map, nat_le, IfSome}
+use Rattle.std.proofs.lemmas.List.{get_or_default}
+use Rattle.std.proofs.lemmas.Bool.{leb-true}
+use Rattle.tc_circuit.specs.declared.circuit.Gate.{Gate}
+use Rattle.tc_circuit.specs.Model.{IsCircuit}
+use Rattle.qasm_reader.specs.declared.gates.Size.{Size}
+use Rattle.qasm_reader.specs.declared.scan.Defined.{Defined}
+use Rattle.qasm_reader.specs.Limits.{most_qubits, most_gates_defined}
+use Rattle.qasm_reader.specs.Known.{Known, table, known}
+use Rattle.qasm_reader.specs.State.{expanded, gates_at, with_gate}
+use Rattle.qasm_reader.specs.View.{size_of, gate_of, gates_of, gates_with, known_behind, IsKept, AreKeptBehind, AreKept, IsDefinedAs}
+use Rattle.qasm_reader.proofs.Takeable.{AreSound, table_sound, look_up_is, sound_more}
+
+-- the gates that are known, as a function of names
+abbrev Gates : Type 0
+Gates = List ℕ → Option Known
+
+-- one definition more is known
+abbrev with_definition : Gates → Defined → Gates
+with_definition gates d = with_gate d.definition.name.now (gate_of gates d) gates
+
+-- one definition more at the end
+pub known-push : (gates : Gates) (ds : List Defined) (d : Defined) → known_behind gates (ds ++ d ∷ []) ≡ with_definition (known_behind gates ds) d
+known-push gates [] d = refl
+known-push gates (x ∷ ds) d = known-push (with_definition gates x) ds d
+
+pub kept-push : (gates : Gates) (ds : List Defined) (d : Defined) → AreKeptBehind gates ds → IsKept (gate_of (known_behind gates ds) d) d → AreKeptBehind gates (ds ++ d ∷ [])
+kept-push gates [] d a h = (h, tt)
+kept-push gates (x ∷ ds) d a h = (a.0, kept-push (with_definition gates x) ds d a.1 h)
+
+-- each definition is kept behind those before it
+kept_at : (gates : Gates) (ds : List Defined) (i : ℕ) (d : Defined) → i < length ds → AreKeptBehind gates ds → IsKept (gate_of (known_behind gates (take i ds)) (get_or ds i d)) (get_or ds i d)
+kept_at gates [] i d h a = absurd (omega arith)
+kept_at gates (x ∷ ds) zero d h a = a.0
+kept_at gates (x ∷ ds) (suc i) d h a = kept_at (with_definition gates x) ds i d (omega arith) a.1
+
+-- what is known behind one definition more
+known_at : (gates : Gates) (ds : List Defined) (i : ℕ) (d : Defined) → i < length ds
+    → known_behind gates (take (suc i) ds) ≡ with_definition (known_behind gates (take i ds)) (get_or ds i d)
+known_at gates [] i d h = absurd (omega arith)
+known_at gates (x ∷ ds) zero d h = refl
+known_at gates (x ∷ ds) (suc i) d h = known_at (with_definition gates x) ds i d (omega arith)
+
+-- a definition of another name is passed over
+pub other_definition : (ds : List Defined) (i : ℕ) (d : Defined) (name : List ℕ) → i < length ds → bytes_eq name (get_or ds i d).definition.name.now ≡ false
+    → known_behind known (take (i + 1) ds) name ≡ known_behind known (take i ds) name
+other_definition ds i d name h e =
+    let more : i + 1 ≡ suc i = omega arith in
+    ap (λ (n : ℕ). known_behind known (take n ds) name) more
+    ∙ ap (λ (f : Gates). f name) (known_at known ds i d h)
+    ∙ ap (λ (t : Bool). cond t (Some (gate_of (known_behind known (take i ds)) (get_or ds i d))) (known_behind known (take i ds) name)) e
+
+-- a definition of the name is the gate's
+pub this_definition : (ds : List Defined) (i : ℕ) (d x : Defined) (name : List ℕ) → i < length ds → bytes_eq name (get_or ds i d).definition.name.now ≡ true → x ≡ get_or ds i x → AreKept ds
+    → IsDefinedAs (known_behind known (take (i + 1) ds) name) x
+this_definition ds i d x name h e is kept =
+    let more : i + 1 ≡ suc i = omega arith in
+    let here : bytes_eq name x.definition.name.now ≡ true =
+    ap (λ (y : Defined). bytes_eq name y.definition.name.now) (is ∙ get_or_default ds i x d h) ∙ e in
+    record {
+      gate = gate_of (known_behind known (take i ds)) x;
+      is = ap (λ (n : ℕ). known_behind known (take n ds) name) more
+          ∙ ap (λ (f : Gates). f name) (known_at known ds i x h)
+          ∙ ap (λ (y : Defined). with_definition (known_behind known (take i ds)) y name) (sym is)
+          ∙ ap (λ (t : Bool). cond t (Some (gate_of (known_behind known (take i ds)) x)) (known_behind known (take i ds) name)) here;
+      kept = subst (λ (y : Defined). IsKept (gate_of (known_behind known (take i ds)) y) y) (sym is) (kept_at known ds i x h kept);
+    }
+
+-- a definition of what is known has its size and, where it takes few arguments, its gates
+pub defined_size : (o : Option Known) (d : Defined) → IsDefinedAs o d → Some d.size ≡ option_map size_of o
+defined_size o d h = ap (λ (z : Size). Some z) h.kept.size ∙ sym (ap (option_map size_of) h.is)
+
+pub defined_gates : (o : Option Known) (d : Defined) → IsDefinedAs o d → IfSome o (λ g. g.arity ≤ most_qubits) → d.gates.items ≡ gates_of o
+defined_gates o d h few =
+    let narrow : IfSome (Some h.gate) (λ g. g.arity ≤ most_qubits) = subst (λ (x : Option Known). IfSome x (λ g. g.arity ≤ most_qubits)) h.is few in
+    h.kept.gates narrow ∙ sym (ap gates_of h.is)
+
+-- the gates that are known behind definitions are sound
+pub sound_behind : (gates : Gates) (ds : List Defined) → AreSound gates → AreKeptBehind gates ds → AreSound (known_behind gates ds)
+sound_behind gates [] s k = s
+sound_behind gates (d ∷ ds) s k = sound_behind (with_definition gates d) ds (sound_more d.definition.name.now (gate_of gates d) gates (k.0.some, k.0.fit) s) k.1
+
+-- each known gate stands for few gates
+abbrev pub AreFew : Gates → Type 0
+AreFew gates = (name : List ℕ) (g : Known) → gates name ≡ Some g → length g.gates ≤ most_gates_defined
+
+is_few : Known → Bool
+is_few g = nat_le (length g.gates) most_gates_defined
+
+table_few : AreFew known
+unfolding known is_few
+table_few name g e = leb-true _ _ (look_up_is is_few table name g refl e)
+
+few_more : (name : List ℕ) (g : Known) (gates : Gates) → length g.gates ≤ most_gates_defined → AreFew gates → AreFew (with_gate name g gates)
+few_more name g gates h few other k e = go (bytes_eq other name) refl e
+  where
+    go : (t : Bool) → bytes_eq other name ≡ t → cond t (Some g) (gates other) ≡ Some k → length k.gates ≤ most_gates_defined
+    go true f same = let one : g ≡ k = cc in subst (λ (x : Known). length x.gates ≤ most_gates_defined) one h
+    go false f same = few other k same
+
+few_behind : (gates : Gates) (ds : List Defined) → AreFew gates → AreKeptBehind gates ds → AreFew (known_behind gates ds)
+few_behind gates [] s k = s
+few_behind gates (d ∷ ds) s k = few_behind (with_definition gates d) ds (few_more d.definition.name.now (gate_of gates d) gates k.0.few s) k.1
+
+pub kept_few : (ds : List Defined) → AreKept ds → AreFew (known_behind known ds)
+kept_few ds k = few_behind known ds table_few k
+
+pub kept_sound : (ds : List Defined) → AreKept ds → AreSound (known_behind known ds)
+kept_sound ds k = sound_behind known ds table_sound k
+
+-- a gate by its size and its gates
+pub gates_with-is : (o : Option Known) (qs : List ℕ) → gates_with (option_map size_of o) (gates_of o) qs ≡ gates_at o qs
+gates_with-is None qs = refl
+gates_with-is (Some g) qs = refl
