@@ -1,17 +1,23 @@
 -- What is kept of definitions, one after another.
-use Rattle.std.proofs.Common.{◌≡◌, ℕ, zero, suc, ◌+◌, ◌<◌, ◌≤◌, Bool, true, false, cond, List, [], ◌∷◌, ◌++◌, length, take, get_or, Option, Some, None, arith, ap, ◌∙◌, sym, refl, subst, ⊎_elim}
+use Rattle.std.proofs.Common.{◌≡◌, ℕ, zero, suc, ◌+◌, ◌-◌, ◌<◌, ◌≤◌, Bool, true, false, cond, List, [], ◌∷◌, ◌++◌, length, map, take, get_or, Option, Some, None, arith, ap, ◌∙◌, sym, refl, subst, ⊎_elim}
 use Rattle.std.specs.Str.{bytes_eq}
+use Rattle.std.specs.List.{list_any}
 use Rattle.std.specs.Prelude.{option_map, nat_le, IfSome}
+use Rattle.std.specs.Option.{ForSome, ForNone}
 use Rattle.std.proofs.lemmas.List.{get_or_default}
 use Rattle.std.proofs.lemmas.Bool.{leb-true}
 use Rattle.tc_circuit.specs.declared.circuit.Gate.{Gate}
-use Rattle.tc_circuit.specs.Model.{IsCircuit}
+use Rattle.tc_circuit.specs.Circuit.{Gates as Made}
+use Rattle.tc_circuit.specs.Model.{IsCircuit, t_count_of}
 use Rattle.qasm_reader.specs.declared.gates.Size.{Size}
 use Rattle.qasm_reader.specs.declared.scan.Defined.{Defined}
+use Rattle.qasm_reader.specs.declared.statements.Statement.{Statement as CodeStatement}
 use Rattle.qasm_reader.specs.Limits.{most_qubits, most_gates_defined}
 use Rattle.qasm_reader.specs.Known.{Known, table, known}
-use Rattle.qasm_reader.specs.State.{expanded, gates_at, with_gate}
-use Rattle.qasm_reader.specs.View.{size_of, gate_of, gates_of, gates_with, known_behind, IsKept, AreKeptBehind, AreKept, IsDefinedAs}
+use Rattle.qasm_reader.specs.State.{State, gates_at, gate_in, gate_qubits, gates_in, with_gate}
+use Rattle.qasm_reader.specs.View.{form, gates_made, size_of, size_or_nothing, count_at, gate_of, gates_of, gates_with, known_behind, IsKept, AreKeptBehind, AreKept, IsDefinedAs, IsBehind}
+use Rattle.qasm_reader.proofs.Placing.{t_count-at, length-at, t_count-few}
+use Rattle.qasm_reader.proofs.Places.{or_false}
 use Rattle.qasm_reader.proofs.Takeable.{AreSound, table_sound, look_up_is, sound_more}
 
 -- the gates that are known, as a function of names
@@ -115,3 +121,34 @@ kept_sound ds k = sound_behind known ds table_sound k
 pub gates_with-is : (o : Option Known) (qs : List ℕ) → gates_with (option_map size_of o) (gates_of o) qs ≡ gates_at o qs
 gates_with-is None qs = refl
 gates_with-is (Some g) qs = refl
+
+-- the T gates of a statement's gate, by what the statement says
+pub t_count-behind : (s : State) (p : CodeStatement) → IsBehind s p → t_count_of (gates_in s (option_map form p.form)) ≡ count_at (λ z. z.t_count) p.size (length p.qubits.items)
+t_count-behind s p h =
+    t_count-at (gate_in s.known (option_map form p.form)) (gate_qubits s (option_map form p.form))
+    ∙ ap (λ (z : Option Size). count_at (λ z. z.t_count) z (length (gate_qubits s (option_map form p.form)))) (sym h.size)
+    ∙ ap (λ (qs : List ℕ). count_at (λ z. z.t_count) p.size (length qs)) (sym h.qubits)
+
+-- and all its gates
+pub length-behind : (s : State) (p : CodeStatement) → IsBehind s p → length (gates_in s (option_map form p.form)) ≡ count_at (λ z. z.length) p.size (length p.qubits.items)
+length-behind s p h =
+    length-at (gate_in s.known (option_map form p.form)) (gate_qubits s (option_map form p.form))
+    ∙ ap (λ (z : Option Size). count_at (λ z. z.length) z (length (gate_qubits s (option_map form p.form)))) (sym h.size)
+    ∙ ap (λ (qs : List ℕ). count_at (λ z. z.length) p.size (length qs)) (sym h.qubits)
+
+-- the T gates that a scan has counted are those of its circuit
+pub t_count-made : (o : Option Made) (t : ℕ) → ForSome o (λ c. t ≡ t_count_of c.gates) → ForNone o (t ≡ 0) → t ≡ t_count_of (gates_made o)
+t_count-made None t some none = none refl
+t_count-made (Some c) t some none = some c refl
+
+-- the size of a gate that may be known is small
+pub size_small : (o : Option Known) → ((g : Known) → o ≡ Some g → length g.gates ≤ most_gates_defined)
+    → ((size_or_nothing (option_map size_of o)).length ≤ most_gates_defined) × ((size_or_nothing (option_map size_of o)).t_count ≤ most_gates_defined)
+size_small None h = (omega arith, omega arith)
+size_small (Some g) h = let few = h g refl in (few, omega (arith, few, t_count-few g.gates))
+
+-- where no element passes, one at a place doesn't
+pub none_at : {A B : Type 0} (p : B → Bool) (f : A → B) (xs : List A) (i : ℕ) (d : A) → list_any p (map f xs) ≡ false → i < length xs → p (f (get_or xs i d)) ≡ false
+none_at p f [] i d e h = absurd (omega arith)
+none_at p f (x ∷ xs) zero d e h = (or_false (p (f x)) _ e).0
+none_at p f (x ∷ xs) (suc i) d e h = none_at p f xs i d (or_false (p (f x)) _ e).1 (omega arith)

@@ -11,6 +11,7 @@ pub mod Order
 pub mod Places
 pub mod Takeable
 pub mod Kept
+pub mod Twins
 pub mod Outcomes
 pub mod Names
 mod Small

@@ -1,6 +1,7 @@
 // The bodies of definitions: whether they are good, how many gates they stand for, and these gates.
 ghost use Rattle.std.specs.Prelude.{◌≡◌, ◌≤◌, ◌++◌, ℕ, ◌||◌, not, List, false, length, map, IfOk, OnOk, Option, option_map};
-ghost use Rattle.std.specs.List.{list_any};
+ghost use Rattle.std.specs.List.{list_any, prefix_len};
+ghost use Rattle.std.specs.Str.{bytes_eq};
 ghost use Rattle.tc_circuit.specs.Model.{t_count_of};
 ghost use Rattle.qasm_reader.specs.Limits.{most_qubits, most_gates_defined};
 ghost use Rattle.qasm_reader.specs.Known.{known};
@@ -48,17 +49,16 @@ fn set_of<'a>(alloc: Global, list: &[&'a [u8]]) -> Result<BTreeSet<&'a [u8]>, Al
     Ok(set)
 }
 
-fn is_stranger<'a>(set: &BTreeSet<&'a [u8]>, name: &'a [u8]) -> bool
-    ensures { result ≡ not (names set.now name.now) }
-{
-    !contains_name(set, name)
-}
-
 // Whether one of the names isn't in the set.
 fn has_stranger<'a>(set: &BTreeSet<&'a [u8]>, args: &[&'a [u8]]) -> bool
-    ensures { result ≡ list_any (λ a. not (names set.now a.now)) args.now }
+    ensures { result ≡ list_any (λ a. not (names set.now a)) (name_list args.now) }
 {
-    args.iter().any(|a| is_stranger(set, *a))
+    for name in args {
+        if !contains_name(set, *name) {
+            return true;
+        }
+    }
+    false
 }
 
 // Whether a gate of this size isn't known, takes another number of arguments, or has one twice.
@@ -155,12 +155,20 @@ pub(crate) fn body_size(list: &[Defined], definition: &Definition) -> Size
     }
 }
 
+// How many names stand before the name.
+fn len_before(list: &[&[u8]], name: &[u8]) -> usize
+    ensures value { result ≡ prefix_len (λ n. not (bytes_eq name.now n.now)) list.now }
+    ensures within { result ≤ length list.now }
+{
+    list.iter().take_while(|other| name != **other).count()
+}
+
 // The place of a name among few names, or their number.
 fn place_among(list: &[&[u8]], name: &[u8]) -> u8
     requires { length list.now ≤ most_qubits }
     ensures { result ≡ place_among (name_list list.now) name.now }
 {
-    list.iter().take_while(|other| **other != name).count() as u8
+    len_before(list, name) as u8
 }
 
 // The places of names among few names.

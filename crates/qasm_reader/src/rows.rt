@@ -1,8 +1,9 @@
 // The rows by which a statement is refused.
-ghost use Rattle.std.specs.Prelude.{◌≡◌, Option, option_map, is_none, is_some, length};
+ghost use Rattle.tc_circuit.specs.Model.{t_count_of};
+ghost use Rattle.std.specs.Prelude.{◌≡◌, ◌+◌, min, Option, option_map, is_none, is_some, length};
 ghost use Rattle.std.specs.Str.{bytes_eq};
 ghost use Rattle.std.specs.List.{list_any};
-ghost use Rattle.qasm_reader.specs.State.{find_register};
+ghost use Rattle.qasm_reader.specs.State.{find_register, gates_in};
 ghost use Rattle.qasm_reader.specs.Rows.{ends, is_foreign, is_call, is_beyond_bodies, is_definition, is_wide_definition, is_outside_profile, takes_other, has_other_arity, is_no_statement, takes_bare, has_bare, includes_other, is_not_in_profile, withheld, is_taken, is_unknown, arguments_of, has_no_register, is_outside, is_empty_size, has_bad_index, has_too_many_qubits, has_too_many_t, has_too_many_gates, applies, row_of};
 ghost use Rattle.qasm_reader.specs.View.{lexeme, lexemes, form, argument, arguments, register, registers, statement_of, IsBehind, AreKept, state};
 
@@ -287,14 +288,21 @@ fn has_too_many_qubits(scan: &Scan, found: &Option<Form>) -> bool
     }
 }
 
+// How many T gates there are with those of the statement, or the greatest number where there are more.
+fn t_count_with(scan: &Scan, statement: &Statement) -> usize
+    requires { IsBehind (state scan.now) statement.now }
+    ensures { result ≡ min (t_count_of (state scan.now).gates + t_count_of (gates_in (state scan.now) (option_map form statement.now.form))) usize.MAX }
+{
+    scan.t_count
+        .saturating_add(t_count_at(statement.size, &statement.qubits))
+}
+
 fn has_too_many_t(scan: &Scan, statement: &Statement) -> bool
     requires { IsBehind (state scan.now) statement.now }
     ensures { result ≡ has_too_many_t (state scan.now) (option_map form statement.now.form) }
 {
     match &statement.form {
-        Some(Form::Apply(_, _)) => {
-            t_count_at(statement.size, &statement.qubits) > MOST_T_GATES - scan.t_count
-        }
+        Some(Form::Apply(_, _)) => t_count_with(scan, statement) > MOST_T_GATES,
         _ => false,
     }
 }
@@ -309,16 +317,21 @@ fn length_of(scan: &Scan) -> usize
     }
 }
 
+// How many gates there are with those of the statement, or the greatest number where there are more.
+fn length_with(scan: &Scan, statement: &Statement) -> usize
+    requires { IsBehind (state scan.now) statement.now }
+    ensures { result ≡ min (length (state scan.now).gates + length (gates_in (state scan.now) (option_map form statement.now.form))) usize.MAX }
+{
+    length_of(scan).saturating_add(length_at(statement.size, &statement.qubits))
+}
+
 fn has_too_many_gates(scan: &Scan, statement: &Statement) -> bool
     requires { IsBehind (state scan.now) statement.now }
     ensures { result ≡ has_too_many_gates (state scan.now) (option_map form statement.now.form) }
 {
     match &statement.form {
         Some(Form::Define(_)) => statement.body.length > MOST_GATES_DEFINED,
-        Some(Form::Apply(_, _)) => {
-            let more = length_at(statement.size, &statement.qubits);
-            length_of(scan).saturating_add(more) > MOST_GATES
-        }
+        Some(Form::Apply(_, _)) => length_with(scan, statement) > MOST_GATES,
         _ => false,
     }
 }
