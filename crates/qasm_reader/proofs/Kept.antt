@@ -1,10 +1,10 @@
 -- What is kept of definitions, one after another.
-use Rattle.std.proofs.Common.{◌≡◌, ℕ, zero, suc, ◌+◌, ◌-◌, ◌<◌, ◌≤◌, Bool, true, false, cond, List, [], ◌∷◌, ◌++◌, length, map, take, get_or, Option, Some, None, arith, ap, ◌∙◌, sym, refl, subst, ⊎_elim}
+use Rattle.std.proofs.Common.{◌≡◌, ℕ, zero, suc, ◌+◌, ◌-◌, ◌<◌, ◌≤◌, Bool, true, false, cond, ◌||◌, List, [], ◌∷◌, ◌++◌, Bor, length, map, take, get_or, Option, Some, None, arith, ap, ◌∙◌, sym, refl, subst, ⊎_elim}
 use Rattle.std.specs.Str.{bytes_eq}
 use Rattle.std.specs.List.{list_any}
 use Rattle.std.specs.Prelude.{option_map, nat_le, IfSome}
 use Rattle.std.specs.Option.{ForSome, ForNone}
-use Rattle.std.proofs.lemmas.List.{get_or_default}
+use Rattle.std.proofs.lemmas.List.{get_or_default, map-append, map_more}
 use Rattle.std.proofs.lemmas.Bool.{leb-true}
 use Rattle.tc_circuit.specs.declared.circuit.Gate.{Gate}
 use Rattle.tc_circuit.specs.Circuit.{Gates as Made}
@@ -14,10 +14,10 @@ use Rattle.qasm_reader.specs.declared.scan.Defined.{Defined}
 use Rattle.qasm_reader.specs.declared.statements.Statement.{Statement as CodeStatement}
 use Rattle.qasm_reader.specs.Limits.{most_qubits, most_gates_defined}
 use Rattle.qasm_reader.specs.Known.{Known, table, known}
-use Rattle.qasm_reader.specs.State.{State, gates_at, gate_in, gate_qubits, gates_in, with_gate}
-use Rattle.qasm_reader.specs.View.{form, gates_made, size_of, size_or_nothing, count_at, gate_of, gates_of, gates_with, known_behind, IsKept, AreKeptBehind, AreKept, IsDefinedAs, IsBehind}
+use Rattle.qasm_reader.specs.State.{State, gates_at, gate_in, gate_qubits, gates_in, place_among, with_gate}
+use Rattle.qasm_reader.specs.View.{form, name_list, gates_made, size_of, size_or_nothing, count_at, gate_of, gates_of, gates_with, known_behind, IsKept, AreKeptBehind, AreKept, IsDefinedAs, IsBehind}
 use Rattle.qasm_reader.proofs.Placing.{t_count-at, length-at, t_count-few}
-use Rattle.qasm_reader.proofs.Places.{or_false}
+use Rattle.qasm_reader.proofs.Places.{or_false, or_right}
 use Rattle.qasm_reader.proofs.Takeable.{AreSound, table_sound, look_up_is, sound_more}
 
 -- the gates that are known, as a function of names
@@ -152,3 +152,15 @@ pub none_at : {A B : Type 0} (p : B → Bool) (f : A → B) (xs : List A) (i : �
 none_at p f [] i d e h = absurd (omega arith)
 none_at p f (x ∷ xs) zero d e h = (or_false (p (f x)) _ e).0
 none_at p f (x ∷ xs) (suc i) d e h = none_at p f xs i d (or_false (p (f x)) _ e).1 (omega arith)
+
+-- where one at a place passes, an element does
+pub some_at : {A B : Type 0} (p : B → Bool) (f : A → B) (xs : List A) (i : ℕ) (d : A) → p (f (get_or xs i d)) ≡ true → i < length xs → list_any p (map f xs) ≡ true
+some_at p f [] i d e h = absurd (omega arith)
+some_at p f (x ∷ xs) zero d e h = ap (λ (t : Bool). t || list_any p (map f xs)) e
+some_at p f (x ∷ xs) (suc i) d e h = or_right (p (f x)) _ (some_at p f xs i d e (omega arith))
+
+-- the places of names with one name more
+pub places_more : (names : List (List ℕ)) (args : List (Bor (List ℕ))) (i : ℕ) (d : Bor (List ℕ)) → i < length args
+    → map (place_among names) (name_list (take (i + 1) args)) ≡ map (place_among names) (name_list (take i args)) ++ place_among names (get_or args i d).now ∷ []
+places_more names args i d h =
+    ap (map (place_among names)) (map_more (λ (b : Bor (List ℕ)). b.now) args i d h) ∙ map-append (place_among names) (name_list (take i args)) ((get_or args i d).now ∷ [])

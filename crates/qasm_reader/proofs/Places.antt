@@ -13,6 +13,11 @@ pub or_false : (x y : Bool) → (x || y) ≡ false → (x ≡ false) × (y ≡ f
 or_false true y e = absurd (cc)
 or_false false y e = (refl, e)
 
+-- where the right part holds a disjunction does
+pub or_right : (x y : Bool) → y ≡ true → (x || y) ≡ true
+or_right true y e = refl
+or_right false y e = e
+
 -- a name that isn't the first is among the others
 among_others : (name first : List ℕ) (names : List (List ℕ)) → bytes_eq name first ≡ false → is_among (first ∷ names) name ≡ true → is_among names name ≡ true
 among_others name first names e h = sym (ap (λ (t : Bool). t || is_among names name) e) ∙ h

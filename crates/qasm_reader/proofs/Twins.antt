@@ -10,6 +10,7 @@ use Rattle.qasm_reader.specs.Known.{Known}
 use Rattle.qasm_reader.specs.State.{with_name}
 use Rattle.qasm_reader.specs.Rows.{is_among, has_twin_names, has_stranger}
 use Rattle.qasm_reader.specs.View.{names, name_list, size_of}
+use Rattle.qasm_reader.proofs.Places.{or_right}
 
 -- one element more, from behind
 drop_less : {A : Type 0} (xs : List A) (at : ℕ) (d : A) → 0 < at → at ≤ length xs → drop (at - 1) xs ≡ get_or xs (at - 1) d ∷ drop at xs
@@ -43,10 +44,6 @@ twins_whole [] n h = absurd (none n h)
     none (suc n) h = cc
 twins_whole (x ∷ xs) zero h = h
 twins_whole (x ∷ xs) (suc n) h = or_right (is_among (name_list xs) x.now) _ (twins_whole xs n h)
-  where
-    or_right : (a b : Bool) → b ≡ true → (a || b) ≡ true
-    or_right true b e = refl
-    or_right false b e = e
 
 -- strangers by a set
 pub strangers : (set : BTreeSet (Bor (List ℕ))) (among args : List (List ℕ)) → ((other : List ℕ) → names set other ≡ is_among among other)

@@ -1,9 +1,8 @@
-use Rattle.std.proofs.Common.{◌≡◌, ◌∙◌, ap, sym, false}
+use Rattle.std.proofs.Common.{◌∙◌, ap, sym, arith}
 use Rattle.qasm_reader.specs.Known.{known}
 use Rattle.qasm_reader.specs.Rows.{is_bad_entry}
 use Rattle.qasm_reader.specs.View.{known_behind, name_list, entry}
 use Rattle.std.proofs.lemmas.List.{length-map}
-use Rattle.std.proofs.Common.{arith}
 use Rattle.qasm_reader.proofs.Takeable.{entry_narrow}
 use Rattle.qasm_reader.proofs.bodies.push_entry.Goals as goal
 
