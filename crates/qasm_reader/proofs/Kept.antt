@@ -1,10 +1,10 @@
 -- What is kept of definitions, one after another.
-use Rattle.std.proofs.Common.{◌≡◌, ℕ, zero, suc, ◌+◌, ◌-◌, ◌<◌, ◌≤◌, Bool, true, false, cond, ◌||◌, List, [], ◌∷◌, ◌++◌, Bor, length, map, take, get_or, Option, Some, None, arith, ap, ◌∙◌, sym, refl, subst, ⊎_elim}
+use Rattle.std.proofs.Common.{◌≡◌, ℕ, zero, suc, ◌+◌, ◌-◌, ◌<◌, ◌≤◌, Bool, true, false, cond, ◌||◌, List, [], ◌∷◌, ◌++◌, Bor, length, map, take, get_or, min, Option, Some, None, arith, ap, ◌∙◌, sym, refl, subst, ⊎_elim}
 use Rattle.std.specs.Str.{bytes_eq}
 use Rattle.std.specs.List.{list_any}
 use Rattle.std.specs.Prelude.{option_map, nat_le, IfSome}
 use Rattle.std.specs.Option.{ForSome, ForNone}
-use Rattle.std.proofs.lemmas.List.{get_or_default, map-append, map_more}
+use Rattle.std.proofs.lemmas.List.{get_or_default, map-append, map_more, length-map}
 use Rattle.std.proofs.lemmas.Bool.{leb-true}
 use Rattle.tc_circuit.specs.declared.circuit.Gate.{Gate}
 use Rattle.tc_circuit.specs.Circuit.{Gates as Made}
@@ -12,13 +12,14 @@ use Rattle.tc_circuit.specs.Model.{IsCircuit, t_count_of}
 use Rattle.qasm_reader.specs.declared.gates.Size.{Size}
 use Rattle.qasm_reader.specs.declared.scan.Defined.{Defined}
 use Rattle.qasm_reader.specs.declared.statements.Statement.{Statement as CodeStatement}
-use Rattle.qasm_reader.specs.Limits.{most_qubits, most_gates_defined}
+use Rattle.qasm_reader.specs.Limits.{most_qubits, most_t_gates, most_gates_defined}
+use Rattle.qasm_reader.specs.Rows.{is_bad_entry}
 use Rattle.qasm_reader.specs.Known.{Known, table, known}
 use Rattle.qasm_reader.specs.State.{State, gates_at, gate_in, gate_qubits, gates_in, place_among, with_gate}
-use Rattle.qasm_reader.specs.View.{form, name_list, gates_made, size_of, size_or_nothing, count_at, gate_of, gates_of, gates_with, known_behind, IsKept, AreKeptBehind, AreKept, IsDefinedAs, IsBehind}
+use Rattle.qasm_reader.specs.View.{form, name_list, entries, counted_size, gates_made, size_of, size_or_nothing, count_at, gate_of, gates_of, gates_with, known_behind, IsKept, AreKeptBehind, AreKept, IsDefinedAs, IsBehind}
 use Rattle.qasm_reader.proofs.Placing.{t_count-at, length-at, t_count-few}
 use Rattle.qasm_reader.proofs.Places.{or_false, or_right}
-use Rattle.qasm_reader.proofs.Takeable.{AreSound, table_sound, look_up_is, sound_more}
+use Rattle.qasm_reader.proofs.Takeable.{AreSound, table_sound, look_up_is, sound_more, body_fits}
 
 -- the gates that are known, as a function of names
 abbrev Gates : Type 0
@@ -164,3 +165,38 @@ pub places_more : (names : List (List ℕ)) (args : List (Bor (List ℕ))) (i : 
     → map (place_among names) (name_list (take (i + 1) args)) ≡ map (place_among names) (name_list (take i args)) ++ place_among names (get_or args i d).now ∷ []
 places_more names args i d h =
     ap (map (place_among names)) (map_more (λ (b : Bor (List ℕ)). b.now) args i d h) ∙ map-append (place_among names) (name_list (take i args)) ((get_or args i d).now ∷ [])
+
+-- a size that is small is counted exactly
+counted_exact : (g : Known) → length g.gates ≤ most_gates_defined → counted_size g ≡ size_of g
+counted_exact g few =
+    let low = t_count-few g.gates in
+    let a : min (length g.gates) (most_gates_defined + 1) ≡ length g.gates = omega (arith, few) in
+    let b : min (t_count_of g.gates) (most_gates_defined + 1) ≡ t_count_of g.gates = omega (arith, few, low) in
+    λ i. record { arity = g.arity; length = a i; t_count = b i }
+
+-- a definition that can be taken is kept
+pub kept_new : (ds : List Defined) (d : Defined) → AreKept ds → 0 < length d.definition.names.items → length (gate_of (known_behind known ds) d).gates ≤ most_gates_defined
+    → list_any (is_bad_entry (known_behind known ds) (name_list d.definition.names.items)) (entries d.definition.body.items) ≡ false
+    → d.size ≡ counted_size (gate_of (known_behind known ds) d) → (length d.definition.names.items ≤ most_qubits → d.gates.items ≡ (gate_of (known_behind known ds) d).gates)
+    → IsKept (gate_of (known_behind known ds) d) d
+kept_new ds d kept some few good size gates =
+    let names : length (name_list d.definition.names.items) ≡ length d.definition.names.items = length-map d.definition.names.items (λ (b : Bor (List ℕ)). b.now) in
+    record {
+      size = size ∙ counted_exact (gate_of (known_behind known ds) d) few;
+      gates = λ narrow. gates (omega (arith, narrow, names));
+      some = omega (arith, some, names);
+      fit = body_fits (known_behind known ds) (name_list d.definition.names.items) (entries d.definition.body.items) (kept_sound ds kept) good;
+      few = few;
+    }
+
+-- the gates that are pushed for a name
+pub pushed_gates : (o p : Option Known) (size : Option Size) (gates : List Gate) (qs : List ℕ) → size ≡ option_map size_of o → gates ≡ gates_of p → p ≡ o → gates_with size gates qs ≡ gates_at o qs
+pushed_gates o p size gates qs a b c =
+    ap (λ (z : Option Size). gates_with z gates qs) a ∙ ap (λ (g : List Gate). gates_with (option_map size_of o) g qs) (b ∙ ap gates_of c) ∙ gates_with-is o qs
+
+-- and their T gates
+pub pushed_count : (o : Option Known) (size : Option Size) (qs : List ℕ) (n t : ℕ) → size ≡ option_map size_of o → n ≡ min (count_at (λ z. z.t_count) size (length qs)) 18446744073709551615
+    → t + t_count_of (gates_at o qs) ≤ most_t_gates → n ≡ t_count_of (gates_at o qs)
+pushed_count o size qs n t is count few =
+    let added = t_count-at o qs ∙ ap (λ (z : Option Size). count_at (λ z. z.t_count) z (length qs)) (sym is) in
+    omega (arith, added, count, few)
