@@ -57,7 +57,6 @@ small_after s (Some (Qreg name size)) h t k =
     record {
       inside = inside_more s.qubits (value size) s.registers _ h.inside t.1 (omega arith);
       sound = h.sound;
-     
       few = t.2;
       none = h.none;
       fit = subst (IsCircuit (s.qubits + value size)) (sym empty) tt;
@@ -73,7 +72,6 @@ small_after s (Some (Apply name args)) h t k =
     record {
       inside = h.inside;
       sound = h.sound;
-     
       few = h.few;
       none = λ e. absurd (cc);
       fit = circuit_append s.qubits s.gates added h.fit t.2;
@@ -81,7 +79,6 @@ small_after s (Some (Apply name args)) h t k =
       short = omega (arith, k.few, length-append s.gates added);
       counted = omega (arith, k.counted);
     }
-
 small_after s (Some (Define name list body)) h t k =
     let good : has_bad_body s (Some (Define name list body)) ≡ false = t.1 in
     record {

@@ -48,7 +48,7 @@ unfoldable pub arguments_at : List Lexeme → Option (List Argument)
 arguments_at ws = all_some (map argument_at (slice_split (is_kind Comma) ws))
 
 abbrev pub bare_name : Argument → Option (List ℕ)
-bare_name a = elim a.index [ | None ↦ Some a.name | Some digits ↦ None ]
+bare_name a = elim a.index [ None ↦ Some a.name | Some digits ↦ None ]
 
 -- the names of arguments, if none has an index
 unfoldable pub names_of : List Argument → Option (List (List ℕ))

@@ -11,10 +11,7 @@ use crate::scan::Defined;
 use tc_circuit::Gate;
 
 // The definition of the gate of the name, if it was defined.
-pub(crate) fn definition_of<'b, 'a>(
-    list: &'b [Defined<'a>],
-    name: &[u8],
-) -> Option<&'b Defined<'a>>
+pub(crate) fn definition_of<'b, 'a>(list: &'b [Defined<'a>], name: &[u8]) -> Option<&'b Defined<'a>>
     requires { AreKept list.now }
     ensures none { IfNone result (known_behind known list.now name.now ≡ known name.now) }
     ensures some { IfSome result (λ d. IsDefinedAs (known_behind known list.now name.now) d.now) }

@@ -138,10 +138,7 @@ fn arguments_at<'a>(
 }
 
 // The names of arguments, if none has an index.
-fn names_of<'a>(
-    alloc: Global,
-    args: &[Argument<'a>],
-) -> Result<Option<Vec<&'a [u8]>>, AllocError>
+fn names_of<'a>(alloc: Global, args: &[Argument<'a>]) -> Result<Option<Vec<&'a [u8]>>, AllocError>
     ensures { IfOk result (λ o. option_map (λ v. name_list v.items) o ≡ names_of (arguments args.now)) }
 {
     let mut names = Vec::new(alloc);
@@ -156,10 +153,7 @@ fn names_of<'a>(
 
 // Names between commas.
 #[tactic(auto, unfolding(crate::specs::Parse::names_at))]
-fn names_at<'a>(
-    alloc: Global,
-    ws: &[Lexeme<'a>],
-) -> Result<Option<Vec<&'a [u8]>>, AllocError>
+fn names_at<'a>(alloc: Global, ws: &[Lexeme<'a>]) -> Result<Option<Vec<&'a [u8]>>, AllocError>
     ensures { IfOk result (λ o. option_map (λ v. name_list v.items) o ≡ names_at (lexemes ws.now)) }
 {
     match arguments_at(alloc, ws)? {
@@ -186,10 +180,7 @@ fn entry_at<'a>(alloc: Global, ws: &[Lexeme<'a>]) -> Result<Option<Entry<'a>>, A
 }
 
 // The entries of a body.
-fn entries_at<'a>(
-    alloc: Global,
-    ws: &[Lexeme<'a>],
-) -> Result<Option<Vec<Entry<'a>>>, AllocError>
+fn entries_at<'a>(alloc: Global, ws: &[Lexeme<'a>]) -> Result<Option<Vec<Entry<'a>>>, AllocError>
     ensures { IfOk result (λ o. option_map (λ v. entries v.items) o ≡ entries_at (lexemes ws.now)) }
 {
     let mut found = Vec::new(alloc);
@@ -236,10 +227,7 @@ fn defining<'a>(
 
 // The definition behind its word.
 #[tactic(auto, unfolding(crate::specs::Parse::definition_at))]
-fn definition_at<'a>(
-    alloc: Global,
-    ws: &[Lexeme<'a>],
-) -> Result<Option<Form<'a>>, AllocError>
+fn definition_at<'a>(alloc: Global, ws: &[Lexeme<'a>]) -> Result<Option<Form<'a>>, AllocError>
     ensures { IfOk result (λ o. option_map form o ≡ definition_at (lexemes ws.now)) }
 {
     let Some((first, rest)) = ws.split_first() else {

@@ -265,7 +265,8 @@ fn is_taken<'a>(scan: &Scan<'a>, found: &Option<Form<'a>>) -> bool
     match found {
         Some(Form::Qreg(name, _)) => contains_name(&scan.names, name) || scan.circuit.is_some(),
         Some(Form::Creg(name, _)) => contains_name(&scan.names, name),
-        Some(Form::Define(definition)) => is_known(scan, definition.name) || is_withheld(definition.name),
+        Some(Form::Define(definition)) => is_known(scan, definition.name)
+            || is_withheld(definition.name),
         _ => false,
     }
 }
