@@ -1,6 +1,7 @@
 -- The statement of a gate of a print: its lexemes, its form, and the gate that it adds.
 use Rattle.std.proofs.Common.{◌≡◌, ◌≢◌, ℕ, zero, suc, ◌+◌, ◌<◌, ◌≤◌, Bool, true, false, cond, List, [], ◌∷◌, ◌++◌, Option, Some, arith, ap, ◌∙◌, sym, refl, subst}
-use Rattle.std.specs.Prelude.{codes, nat_lt}
+use Rattle.std.specs.Prelude.{codes, nat_lt, length}
+use Rattle.std.specs.Str.{bytes_eq}
 use Rattle.std.specs.List.{flat_map}
 use Rattle.std.proofs.lemmas.Bool.{lt-ltb, ne_eqb}
 use Rattle.tc_circuit.specs.Model.{t_count_of}
@@ -10,7 +11,7 @@ use Rattle.qasm_lex.specs.declared.token.Kind.TheVariants.{Ident, Number, Semi, 
 use Rattle.qasm_reader.specs.Lexemes.{Lexeme, is_free, is_whole, is_reserved, cut_behind, statements}
 use Rattle.qasm_reader.specs.Forms.{Argument, Apply, arguments, IsForm}
 use Rattle.qasm_reader.specs.Known.{Known, known, on_one, on_two}
-use Rattle.qasm_reader.specs.Limits.{most_t_gates, most_statements}
+use Rattle.qasm_reader.specs.Limits.{most_t_gates, most_gates, most_statements}
 use Rattle.qasm_reader.specs.State.{Register, State, with_name, value, qubits_of, placed, expanded, gates_at, gates_in}
 use Rattle.qasm_reader.specs.Rows.{has_twins}
 use Rattle.qasm_reader.specs.Within.{IsIndexed, GatesAreTaken}
@@ -41,15 +42,15 @@ abbrev pub double : List ℕ → ℕ → ℕ → ℕ → Places → ℕ → Plac
 double name q r at p comma o last = lexeme Ident name at ∷ qubit q p (lexeme Comma (codes ",") comma ∷ qubit r o (end last))
 
 -- a name and a qubit are a statement
-pub single_first : (name : List ℕ) (q at : ℕ) (p : Places) (last : ℕ) (ws : List Lexeme) → statements (single name q at p last ++ ws) ≡ single name q at p last ∷ statements ws
+pub single_first : (name : List ℕ) (q at : ℕ) (p : Places) (last : ℕ) (ws : List Lexeme) → bytes_eq name (codes "gate") ≡ false → statements (single name q at p last ++ ws) ≡ single name q at p last ∷ statements ws
 unfolding cut_behind
-single_first name q at p last ws = refl
+single_first name q at p last ws other = rw other refl
 
 -- a name and two qubits are a statement
 pub double_first : (name : List ℕ) (q r at : ℕ) (p : Places) (comma : ℕ) (o : Places) (last : ℕ) (ws : List Lexeme)
-    → statements (double name q r at p comma o last ++ ws) ≡ double name q r at p comma o last ∷ statements ws
+    → bytes_eq name (codes "gate") ≡ false → statements (double name q r at p comma o last ++ ws) ≡ double name q r at p comma o last ∷ statements ws
 unfolding cut_behind
-double_first name q r at p comma o last ws = refl
+double_first name q r at p comma o last ws other = rw other refl
 
 -- the register q of n qubits
 abbrev pub register : ℕ → Register
@@ -98,6 +99,7 @@ qubit_is_named n q h small =
 -- the word is that of a known gate of one argument, which stands for this one gate
 pub record IsSingle (name : List ℕ) (gate : ℕ → Gate) : Type 0 where
   pub is_name : is_free name ≡ true
+  pub is_applied : bytes_eq name (codes "gate") ≡ false
   pub is_known : known name ≡ Some (on_one (gate 0 ∷ []))
   pub is_placed : (q : ℕ) → placed (q ∷ []) (gate 0) ≡ gate q
 
@@ -122,9 +124,9 @@ ReachesFrom n all began gates count ws = Reaches n all (holding n began gates co
 
 -- a gate on one qubit, and the statements behind it
 pub single_more : GatesAreTaken → (n : ℕ) (all : List Gate) (name : List ℕ) (gate : ℕ → Gate) (q at : ℕ) (p : Places) (last : ℕ) (began : Bool) (gates : List Gate) (count : ℕ) → IsSingle name gate → q < n → q < 4
-    → t_count_of gates + t_count_of (gate q ∷ []) ≤ most_t_gates → count < most_statements
+    → t_count_of gates + t_count_of (gate q ∷ []) ≤ most_t_gates → length gates < most_gates → count < most_statements
     → {rest : List ℕ} → Lexed rest (ReachesFrom n all true (gates ++ gate q ∷ []) (count + 1)) → Lexed rest (λ ws. ReachesFrom n all began gates count (single name q at p last ++ ws))
-single_more law n all name gate q at p last began gates count is h small t short more =
+single_more law n all name gate q at p last began gates count is h small t many short more =
     let s : State = holding n began gates count in
     let qs : flat_map (qubits_of (register n ∷ [])) (named q ∷ []) ≡ q ∷ [] = ap (λ (l : List ℕ). l ++ []) (qubit_is_named n q h small) in
     let g : Known = on_one (gate 0 ∷ []) in
@@ -136,17 +138,18 @@ single_more law n all name gate q at p last began gates count is h small t short
       indexed = (indexed n q h small, tt);
       apart = ap has_twins qs;
       low = subst (λ (gs : List Gate). t_count_of gates + t_count_of gs ≤ most_t_gates) (sym added) t;
+      few = subst (λ (gs : List Gate). length gates + length gs ≤ most_gates) (sym added) (omega (arith, many));
       short = short;
     } in
-    weaker (λ ws r. one_more n all s (holding n true (gates ++ gate q ∷ []) (count + 1)) (single name q at p last) ws (Apply name (named q ∷ [])) (single_first name q at p last ws) form taken
+    weaker (λ ws r. one_more n all s (holding n true (gates ++ gate q ∷ []) (count + 1)) (single name q at p last) ws (Apply name (named q ∷ [])) (single_first name q at p last ws is.is_applied) form taken
     (ap (λ (gs : List Gate). holding n true (gates ++ gs) (count + 1)) adds) r) more
 
 -- a cx, and the statements behind it
 pub cx_more : GatesAreTaken → (n : ℕ) (all : List Gate) (q r at : ℕ) (p : Places) (comma : ℕ) (o : Places) (last : ℕ) (began : Bool) (gates : List Gate) (count : ℕ) → q < n → q < 4 → r < n → r < 4 → q ≢ r
-    → t_count_of gates + t_count_of (Cx q r ∷ []) ≤ most_t_gates → count < most_statements
+    → t_count_of gates + t_count_of (Cx q r ∷ []) ≤ most_t_gates → length gates < most_gates → count < most_statements
     → {rest : List ℕ} → Lexed rest (ReachesFrom n all true (gates ++ Cx q r ∷ []) (count + 1)) → Lexed rest (λ ws. ReachesFrom n all began gates count (double (codes "cx") q r at p comma o last ++ ws))
 unfolding is_reserved known
-cx_more law n all q r at p comma o last began gates count h small k low apart t short more =
+cx_more law n all q r at p comma o last began gates count h small k low apart t many short more =
     let s : State = holding n began gates count in
     let qs : flat_map (qubits_of (register n ∷ [])) (named q ∷ named r ∷ []) ≡ q ∷ r ∷ [] =
     ap (λ (l : List ℕ). l ++ (qubits_of (register n ∷ []) (named r) ++ [])) (qubit_is_named n q h small) ∙ ap (λ (l : List ℕ). q ∷ (l ++ [])) (qubit_is_named n r k low) in
@@ -159,7 +162,8 @@ cx_more law n all q r at p comma o last began gates count h small k low apart t 
       indexed = (indexed n q h small, (indexed n r k low, tt));
       apart = ap has_twins qs ∙ differ;
       low = subst (λ (gs : List Gate). t_count_of gates + t_count_of gs ≤ most_t_gates) (sym added) t;
+      few = subst (λ (gs : List Gate). length gates + length gs ≤ most_gates) (sym added) (omega (arith, many));
       short = short;
     } in
     weaker (λ ws r'. one_more n all s (holding n true (gates ++ Cx q r ∷ []) (count + 1)) (double (codes "cx") q r at p comma o last) ws (Apply (codes "cx") (named q ∷ named r ∷ []))
-    (double_first (codes "cx") q r at p comma o last ws) form taken (ap (λ (gs : List Gate). holding n true (gates ++ gs) (count + 1)) added) r') more
+    (double_first (codes "cx") q r at p comma o last ws refl) form taken (ap (λ (gs : List Gate). holding n true (gates ++ gs) (count + 1)) added) r') more

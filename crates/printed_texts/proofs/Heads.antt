@@ -77,5 +77,5 @@ unfolding gap_from kind_at rest_len front
 register_read law n gates some few more =
     let small : n < 4 = omega arith in
     single_tokens (codes "qreg") n (record { unskipped = λ rest. refl; found = λ rest. refl }) small (λ at p last.
-    weaker (λ ws r. one_more n gates included (holding n false [] 2) (single (codes "qreg") n at p last) ws (Qreg (codes "q") ((48 + n) ∷ [])) (single_first (codes "qreg") n at p last ws)
+    weaker (λ ws r. one_more n gates included (holding n false [] 2) (single (codes "qreg") n at p last) ws (Qreg (codes "q") ((48 + n) ∷ [])) (single_first (codes "qreg") n at p last ws refl)
     (register_form n small at p last) (register_taken law n some few at p last) (register_adds n some few) r) more)

@@ -45,7 +45,7 @@ pub record Laws : Type 0 where
 program_read : Laws → (n : ℕ) (gates : List Gate) → 0 < n → n ≤ most_qubits → IsCircuit n gates → t_count_of gates ≤ most_t_gates → length gates ≤ most_statements - 2
     → Lexed (program n gates) (Headed (Reaches n gates start))
 program_read laws n gates some few fit t short =
-    header_read (include_read laws.include n gates (register_read laws.register n gates some few (gates_read laws.gate n few gates [] false 2 fit (omega (arith, t)) (omega (arith, short)))))
+    header_read (include_read laws.include n gates (register_read laws.register n gates some few (gates_read laws.gate n few gates [] false 2 fit (omega (arith, t)) (omega (arith, short)) (omega (arith, short)))))
 
 -- a text with these lexemes reads as the circuit
 reads : (text : List ℕ) (n : ℕ) (gates : List Gate) → 0 < n → Lexed text (Headed (Reaches n gates start)) → Reads text (record { qubits = n; gates = gates })

@@ -1,15 +1,19 @@
 pub mod Shapes
-pub mod Grammar
 pub mod Splits
+pub mod Arguments
+pub mod Entries
+pub mod Grammar
 pub mod Lookups
 pub mod Placing
 pub mod Registers
 pub mod Cut
 pub mod Order
+pub mod Places
 pub mod Takeable
+pub mod Kept
+pub mod Twins
 pub mod Outcomes
 pub mod Names
-mod Lengths
 mod Small
 mod Within
 mod Halving

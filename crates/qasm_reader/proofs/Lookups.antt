@@ -6,11 +6,12 @@ use Rattle.std.specs.List.{list_any, range_with_len}
 use Rattle.std.proofs.lemmas.List.{at_drop_more, take_all, length-drop}
 use Rattle.std.proofs.lemmas.List.Sums.{fold_more}
 use Rattle.qasm_reader.specs.declared.scan.Register.{Register as CodeRegister}
-use Rattle.qasm_lex.specs.declared.token.Kind.TheVariants.{Semi}
-use Rattle.qasm_reader.specs.Lexemes.{Lexeme, is_kind}
-use Rattle.qasm_reader.specs.Rows.{ends, has_twins}
+use Rattle.std.proofs.lemmas.List.{map-append}
+use Rattle.qasm_reader.specs.declared.lexemes.Lexeme.{Lexeme as CodeLexeme}
+use Rattle.qasm_reader.specs.Lexemes.{Lexeme, is_kind, closer}
+use Rattle.qasm_reader.specs.Rows.{last_of, ends, has_twins}
 use Rattle.qasm_reader.specs.State.{value, find_register}
-use Rattle.qasm_reader.specs.View.{register, registers}
+use Rattle.qasm_reader.specs.View.{lexeme, lexemes, register, registers}
 
 -- a register of another name is passed over
 pub other_register : (rs : List CodeRegister) (i : ℕ) (r : CodeRegister) (name : List ℕ) → i < length rs → r ≡ get_or rs i r → bytes_eq r.name.now name ≡ false
@@ -40,11 +41,21 @@ pub list_any-map : {A B : Type 0} (p : B → Bool) (f : A → B) (xs : List A) �
 list_any-map p f [] = refl
 list_any-map p f (x ∷ xs) = ap (λ (t : Bool). p (f x) || t) (list_any-map p f xs)
 
--- the last lexeme decides whether a statement has its end
-pub ends_push : (ws b : List Lexeme) (w : Lexeme) → ws ≡ b ++ w ∷ [] → ends ws ≡ is_kind Semi w
-ends_push ws [] w e = ap ends e
-ends_push ws (v ∷ []) w e = ap ends e
-ends_push ws (v ∷ u ∷ b) w e = ap ends e ∙ ends_push (u ∷ b ++ w ∷ []) (u ∷ b) w refl
+-- the last lexeme
+pub last_of-push : (u : Lexeme) (b : List Lexeme) (w : Lexeme) → last_of u (b ++ w ∷ []) ≡ w
+last_of-push u [] w = refl
+last_of-push u (x ∷ b) w = last_of-push x b w
+
+-- it decides whether a statement has its end
+pub ends_push : (v : Lexeme) (vs b : List Lexeme) (w : Lexeme) → v ∷ vs ≡ b ++ w ∷ [] → ends (v ∷ vs) ≡ is_kind (closer v) w
+ends_push v vs [] w e = let only : vs ≡ [] = cc in let same : v ≡ w = cc in ap (λ (l : List Lexeme). ends (v ∷ l)) only ∙ ap (λ (x : Lexeme). is_kind (closer v) x) same
+ends_push v vs (u ∷ b) w e = let rest : vs ≡ b ++ w ∷ [] = cc in ap (λ (l : List Lexeme). ends (v ∷ l)) rest ∙ ap (λ (x : Lexeme). is_kind (closer v) x) (last_of-push v b w)
+
+-- the same of the code's lexemes
+pub code_ends : (ws b : List CodeLexeme) (w d : CodeLexeme) → ws ≡ b ++ w ∷ [] → is_kind (closer (lexeme (get_or ws 0 d))) (lexeme w) ≡ ends (lexemes ws)
+code_ends [] [] w d e = absurd (cc)
+code_ends [] (u ∷ b) w d e = absurd (cc)
+code_ends (v ∷ vs) b w d e = sym (ends_push (lexeme v) (lexemes vs) (lexemes b) (lexeme w) (ap lexemes e ∙ map-append lexeme b (w ∷ [])))
 
 -- a range with one number more
 range_suc : (n : ℕ) (a : ℕ) → range_with_len a (suc n) ≡ range_with_len a n ++ (a + n) ∷ []

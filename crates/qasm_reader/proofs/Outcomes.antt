@@ -24,7 +24,8 @@ use Rattle.qasm_reader.specs.Refusals.{number_of, fault_of}
 use Rattle.qasm_reader.specs.Rows.{Statement}
 use Rattle.qasm_reader.specs.Read.{IsHeaded, place_of, Refuser, scan, HasLexemes, HasStatements, Reads, RefusedFor, Refused, IsBad, IsHeadless, IsRefused, IsEmpty, IsFault}
 use Rattle.qasm_reader.specs.Run.{stated, IsScanFault}
-use Rattle.qasm_reader.proofs.Grammar.{chosen, has_form, same_form}
+use Rattle.qasm_reader.proofs.Arguments.{chosen}
+use Rattle.qasm_reader.proofs.Grammar.{has_form, same_form}
 use Rattle.qasm_reader.proofs.Shapes.{to_ident, from_ident, to_mark, from_mark, to_number, from_number}
 
 -- statements with the forms that are computed have their forms

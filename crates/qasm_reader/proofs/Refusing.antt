@@ -2,10 +2,9 @@
 use Rattle.std.proofs.Common.{◌≡◌, ℕ, ◌≤◌, true, false, cond, List, [], ◌∷◌, ◌++◌, length, map, Some, None, Err, sym, subst, arith}
 use Rattle.std.specs.Prelude.{All}
 use Rattle.std.proofs.lemmas.List.Elements.{All-nil, All-cons, All-head, All-tail, All-append}
-use Rattle.qasm_lex.specs.declared.token.Kind.TheVariants.{Semi}
 use Rattle.qasm_lex.specs.declared.token.Token.{Token}
 use Rattle.qasm_lex.specs.Tokens.{Cuts}
-use Rattle.qasm_reader.specs.Lexemes.{Lexeme, lexeme_of, is_kind, cut_behind}
+use Rattle.qasm_reader.specs.Lexemes.{Lexeme, lexeme_of, closes, cut_behind}
 use Rattle.qasm_reader.specs.State.{State, start, after}
 use Rattle.qasm_reader.specs.Rows.{Statement, row_of}
 use Rattle.qasm_reader.specs.Read.{Refuser, Refused, HasLexemes, HasStatements, IsBad, IsHeadless, IsRefused, IsEmpty, scan, refused_or, place_of}
@@ -47,7 +46,7 @@ module _ (end : ℕ) where
       let more = All-append Begins begun (w ∷ []) b (All-cons Begins w [] (All-head Begins w ws h) (All-nil Begins)) in
       let behind = All-tail Begins w ws h in
       subst (All AllBegin) (sym (step begun w ws))
-      (elim (is_kind Semi w) as (λ e. All AllBegin (cond e ((begun ++ w ∷ []) ∷ cut_behind [] ws) (cut_behind (begun ++ w ∷ []) ws))) [
+      (elim (closes begun w) as (λ e. All AllBegin (cond e ((begun ++ w ∷ []) ∷ cut_behind [] ws) (cut_behind (begun ++ w ∷ []) ws))) [
         | true ↦ All-cons AllBegin (begun ++ w ∷ []) (cut_behind [] ws) (first_begins (begun ++ w ∷ []) 0 (omega arith) more) (statements_begin ws [] (All-nil Begins) behind)
         | false ↦ statements_begin ws (begun ++ w ∷ []) more behind
       ])

@@ -3,10 +3,11 @@ use Rattle.std.proofs.Common.{◌≡◌, ℕ, suc, ◌+◌, ◌-◌, Bool, true,
 use Rattle.std.specs.List.{slice_split, onto_first, position_or_len, prefix_len}
 use Rattle.std.proofs.lemmas.Bool.{cases_Bool}
 use Rattle.std.proofs.lemmas.List.Splits.{slice_split-cons_yes, slice_split-cons_no}
+use Rattle.qasm_lex.specs.declared.token.Kind.{Kind}
 use Rattle.qasm_lex.specs.declared.token.Kind.TheVariants.{Comma}
 use Rattle.qasm_reader.specs.declared.lexemes.Lexeme.{Lexeme as CodeLexeme}
 use Rattle.qasm_reader.specs.View.{lexeme, lexemes}
-use Rattle.std.proofs.lemmas.List.{take_all, length-drop, take-map, drop-map}
+use Rattle.std.proofs.lemmas.List.{take_all, length-drop, take-map, drop-map, drop-drop}
 use Rattle.qasm_reader.specs.Lexemes.{Lexeme, is_kind}
 use Rattle.qasm_reader.specs.Forms.{Argument}
 use Rattle.qasm_reader.specs.Parse.{argument_at, consed, all_some, arguments_at}
@@ -67,54 +68,61 @@ pub with_nothing : {A : Type 0} (o : Option (List A)) → with_front [] o ≡ o
 with_nothing None = refl
 with_nothing (Some xs) = refl
 
--- what the first part and the rest say of the arguments
-pub record FirstPart (all part more : List Lexeme) : Type 0 where
+-- what the first part and the rest say of the whole
+pub record FirstPart (k : Kind) (all part more : List Lexeme) : Type 0 where
   pub size : ℕ
-  pub first : size ≡ position_or_len (is_kind Comma) all
+  pub first : size ≡ position_or_len (is_kind k) all
   pub front : part ≡ take size all
   pub rest : more ≡ drop size all
 
 -- the first part and the rest are the parts
-split_of : (all part more : List Lexeme) → FirstPart all part more
-    → (more ≡ [] → slice_split (is_kind Comma) all ≡ part ∷ []) × ((w : Lexeme) (ys : List Lexeme) → more ≡ w ∷ ys → slice_split (is_kind Comma) all ≡ part ∷ slice_split (is_kind Comma) ys)
-split_of all part more f =
-    let front : take (position_or_len (is_kind Comma) all) all ≡ part = ap (λ (n : ℕ). take n all) (sym f.first) ∙ sym f.front in
-    let rest : drop (position_or_len (is_kind Comma) all) all ≡ more = ap (λ (n : ℕ). drop n all) (sym f.first) ∙ sym f.rest in (
-      λ e. part_last (is_kind Comma) all (rest ∙ e) ∙ ap (λ (l : List Lexeme). l ∷ []) front,
-      λ w ys e. part_next (is_kind Comma) all w ys (rest ∙ e) ∙ ap (λ (l : List Lexeme). l ∷ slice_split (is_kind Comma) ys) front,
+pub split_of : (k : Kind) (all part more : List Lexeme) → FirstPart k all part more
+    → (more ≡ [] → slice_split (is_kind k) all ≡ part ∷ []) × ((w : Lexeme) (ys : List Lexeme) → more ≡ w ∷ ys → slice_split (is_kind k) all ≡ part ∷ slice_split (is_kind k) ys)
+split_of k all part more f =
+    let front : take (position_or_len (is_kind k) all) all ≡ part = ap (λ (n : ℕ). take n all) (sym f.first) ∙ sym f.front in
+    let rest : drop (position_or_len (is_kind k) all) all ≡ more = ap (λ (n : ℕ). drop n all) (sym f.first) ∙ sym f.rest in (
+      λ e. part_last (is_kind k) all (rest ∙ e) ∙ ap (λ (l : List Lexeme). l ∷ []) front,
+      λ w ys e. part_next (is_kind k) all w ys (rest ∙ e) ∙ ap (λ (l : List Lexeme). l ∷ slice_split (is_kind k) ys) front,
     )
 
 -- where the first part is no argument there are none
-pub none_read : (all part more : List Lexeme) → FirstPart all part more → argument_at part ≡ None → arguments_at all ≡ None
+pub none_read : (all part more : List Lexeme) → FirstPart Comma all part more → argument_at part ≡ None → arguments_at all ≡ None
 unfolding arguments_at
 none_read all part [] f e =
-    ap (λ (l : List (List Lexeme)). all_some (map argument_at l)) ((split_of all part [] f).0 refl) ∙ ap (λ (o : Option Argument). consed o (Some [])) e
+    ap (λ (l : List (List Lexeme)). all_some (map argument_at l)) ((split_of Comma all part [] f).0 refl) ∙ ap (λ (o : Option Argument). consed o (Some [])) e
 none_read all part (w ∷ ys) f e =
-    ap (λ (l : List (List Lexeme)). all_some (map argument_at l)) ((split_of all part (w ∷ ys) f).1 w ys refl) ∙ ap (λ (o : Option Argument). consed o (all_some (map argument_at (slice_split (is_kind Comma) ys)))) e
+    ap (λ (l : List (List Lexeme)). all_some (map argument_at l)) ((split_of Comma all part (w ∷ ys) f).1 w ys refl) ∙ ap (λ (o : Option Argument). consed o (all_some (map argument_at (slice_split (is_kind Comma) ys)))) e
 
 -- where there is no other part the first is all
-pub last_read : (all part more : List Lexeme) (a : Argument) → FirstPart all part more → more ≡ [] → argument_at part ≡ Some a → arguments_at all ≡ Some (a ∷ [])
+pub last_read : (all part more : List Lexeme) (a : Argument) → FirstPart Comma all part more → more ≡ [] → argument_at part ≡ Some a → arguments_at all ≡ Some (a ∷ [])
 unfolding arguments_at
 last_read all part more a f m e =
-    ap (λ (l : List (List Lexeme)). all_some (map argument_at l)) ((split_of all part more f).0 m) ∙ ap (λ (o : Option Argument). consed o (Some [])) e
+    ap (λ (l : List (List Lexeme)). all_some (map argument_at l)) ((split_of Comma all part more f).0 m) ∙ ap (λ (o : Option Argument). consed o (Some [])) e
 
 -- behind the first part the rest is read
-pub next_read : (all part more : List Lexeme) (a : Argument) → FirstPart all part more → (more ≡ [] → ⊥) → argument_at part ≡ Some a → arguments_at all ≡ consed (Some a) (arguments_at (drop 1 more))
+pub next_read : (all part more : List Lexeme) (a : Argument) → FirstPart Comma all part more → (more ≡ [] → ⊥) → argument_at part ≡ Some a → arguments_at all ≡ consed (Some a) (arguments_at (drop 1 more))
 unfolding arguments_at
 next_read all part [] a f m e = absurd (m refl)
 next_read all part (w ∷ ys) a f m e =
-    ap (λ (l : List (List Lexeme)). all_some (map argument_at l)) ((split_of all part (w ∷ ys) f).1 w ys refl) ∙ ap (λ (o : Option Argument). consed o (all_some (map argument_at (slice_split (is_kind Comma) ys)))) e
+    ap (λ (l : List (List Lexeme)). all_some (map argument_at l)) ((split_of Comma all part (w ∷ ys) f).1 w ys refl) ∙ ap (λ (o : Option Argument). consed o (all_some (map argument_at (slice_split (is_kind Comma) ys)))) e
 
 -- the same of the code's lexemes
-pub first_part : (ws : List CodeLexeme) (at n : ℕ) (part more : List CodeLexeme)
-    → n ≡ position_or_len (is_kind Comma) (lexemes (take (length ws - at) (drop at ws)))
+pub first_part : (k : Kind) (ws : List CodeLexeme) (at n : ℕ) (part more : List CodeLexeme)
+    → n ≡ position_or_len (is_kind k) (lexemes (take (length ws - at) (drop at ws)))
     → part ≡ take n (take (length ws - at) (drop at ws)) → more ≡ drop n (take (length ws - at) (drop at ws))
-    → FirstPart (lexemes (drop at ws)) (lexemes part) (lexemes more)
-first_part ws at n part more p f r =
+    → FirstPart k (lexemes (drop at ws)) (lexemes part) (lexemes more)
+first_part k ws at n part more p f r =
     let whole : take (length ws - at) (drop at ws) ≡ drop at ws = take_all _ _ (omega (arith, length-drop at ws)) in
     record {
       size = n;
-      first = p ∙ ap (λ (l : List CodeLexeme). position_or_len (is_kind Comma) (lexemes l)) whole;
+      first = p ∙ ap (λ (l : List CodeLexeme). position_or_len (is_kind k) (lexemes l)) whole;
       front = ap lexemes f ∙ ap (λ (l : List CodeLexeme). lexemes (take n l)) whole ∙ sym (take-map lexeme n (drop at ws));
       rest = ap lexemes r ∙ ap (λ (l : List CodeLexeme). lexemes (drop n l)) whole ∙ sym (drop-map lexeme n (drop at ws));
     }
+
+-- behind a part, what the rest is of the code's lexemes
+pub behind_part : (ws : List CodeLexeme) (at n : ℕ) (part more : List CodeLexeme) → length part ≡ n
+    → more ≡ drop n (take (length ws - at) (drop at ws)) → drop 1 more ≡ drop (at + (length part + 1)) ws
+behind_part ws at n part more size r =
+    let whole : take (length ws - at) (drop at ws) ≡ drop at ws = take_all _ _ (omega (arith, length-drop at ws)) in
+    ap (λ (l : List CodeLexeme). drop 1 l) (r ∙ ap (λ (l : List CodeLexeme). drop n l) whole ∙ drop-drop n at ws) ∙ drop-drop 1 (at + n) ws ∙ ap (λ (k : ℕ). drop k ws) (omega (arith, size))

@@ -1,23 +1,25 @@
 -- A statement to which no row applies can be taken: its gates fit the qubits, and they have few T gates.
 use Rattle.std.proofs.Common.{◌≡◌, ◌≢◌, ℕ, zero, suc, ◌+◌, ◌<◌, ◌≤◌, Bool, true, false, cond, not, ◌||◌, ◌&&◌, ◌==◌, List, [], ◌∷◌, ◌++◌, length, map, get_or, Option, Some, None, arith, ap, ◌∙◌, sym, refl, subst, ⊎_elim, length-append}
-use Rattle.std.specs.Prelude.{nat_lt, is_none}
+use Rattle.std.specs.Prelude.{nat_lt, is_none, option_map, IfSome}
 use Rattle.std.specs.List.{AllByRecursion, list_all, list_any, flat_map, range_with_len}
 use Rattle.std.specs.Str.{bytes_eq}
 use Rattle.std.proofs.lemmas.Bool.{cases_Bool, and_parts, eqb-true, eqb-false, ltb-true, ltb-false, leb-false, lt-ltb, eq-eqb, not-true, not-false}
+use Rattle.std.proofs.lemmas.List.{length-map}
 use Rattle.tc_circuit.specs.declared.circuit.Gate.{Gate}
 use Rattle.tc_circuit.specs.declared.circuit.Gate.TheVariants.{H, S, Sdg, T, Tdg, Cx}
 use Rattle.tc_circuit.specs.Gate.{Fits}
 use Rattle.tc_circuit.specs.Model.{IsCircuit}
-use Rattle.qasm_reader.specs.declared.refusal.Refusal.TheVariants.{Statement as NoStatement, NotInProfile, TwoNames, UnknownRegister, Index, SameQubit, Qubits, TooManyT, TooLong}
-use Rattle.qasm_reader.specs.Limits.{most_statements}
+use Rattle.qasm_reader.specs.declared.refusal.Refusal.TheVariants.{Statement as NoStatement, NotInProfile, TwoNames, Body, UnknownRegister, Index, SameQubit, Qubits, TooManyT, TooManyGates, TooLong}
+use Rattle.qasm_reader.specs.Limits.{most_qubits, most_statements}
 use Rattle.qasm_reader.specs.Lexemes.{Lexeme}
-use Rattle.qasm_reader.specs.Forms.{Argument, Form, Include, Qreg, Creg, Barrier, Apply, HasForm}
+use Rattle.qasm_reader.specs.Forms.{Argument, bare, Entry, Bar, Call, Form, Include, Qreg, Creg, Barrier, Apply, Define, HasForm}
 use Rattle.qasm_reader.specs.Known.{Known, look_up, table, known}
-use Rattle.qasm_reader.specs.State.{Register, State, value, find_register, qubits_in, qubits_at, qubits_of, placed, expanded, gates_at, gate_in}
-use Rattle.qasm_reader.specs.Rows.{Statement, row_of, takes_other, takes_bare, has_other_arity, has_bare, is_outside, is_no_statement, is_not_in_profile, is_taken, has_no_register, has_bad_index, names_twice, has_twins, has_too_many_qubits, has_too_many_t}
+use Rattle.qasm_reader.specs.State.{Register, State, value, find_register, qubits_in, qubits_at, qubits_of, placed, expanded, gates_at, place_among, called, entry_gates, with_gate}
+use Rattle.qasm_reader.specs.Rows.{Statement, row_of, takes_other, takes_bare, has_other_arity, has_bare, is_outside, is_no_statement, is_not_in_profile, is_taken, has_stranger, is_bad_call, is_bad_entry, has_bad_body, has_no_register, has_bad_index, names_twice, has_twins, has_too_many_qubits, has_too_many_t, has_too_many_gates, arity_in}
 use Rattle.qasm_reader.specs.Run.{IsTakeable}
 use Rattle.qasm_reader.proofs.Registers.{Inside}
 use Rattle.qasm_reader.proofs.Order.{unmet}
+use Rattle.qasm_reader.proofs.Places.{or_false, places_below, places_apart}
 
 -- a test that decides whether a gate fits
 fits : ℕ → Gate → Bool
@@ -72,6 +74,14 @@ table_sound name g e =
     let p = and_parts (nat_lt 0 g.arity) _ s in
     (ltb-true _ _ p.0, all_fit g.arity g.gates p.1)
 
+-- the known gates, and one more
+pub sound_more : (name : List ℕ) (g : Known) (gates : List ℕ → Option Known) → (0 < g.arity) × IsCircuit g.arity g.gates → AreSound gates → AreSound (with_gate name g gates)
+sound_more name g gates h sound other k e = go (bytes_eq other name) refl e
+  where
+    go : (t : Bool) → bytes_eq other name ≡ t → cond t (Some g) (gates other) ≡ Some k → (0 < k.arity) × IsCircuit k.arity k.gates
+    go true f same = let one : g ≡ k = cc in subst (λ (x : Known). (0 < x.arity) × IsCircuit x.arity x.gates) one h
+    go false f same = sound other k same
+
 -- the qubits are below n
 abbrev Below : ℕ → List ℕ → Type 0
 Below n qs = AllByRecursion (λ q. q < n) qs
@@ -81,11 +91,6 @@ below_at : (n : ℕ) (qs : List ℕ) (i : ℕ) → Below n qs → i < length qs 
 below_at n [] i b h = absurd (omega arith)
 below_at n (q ∷ qs) zero b h = b.0
 below_at n (q ∷ qs) (suc i) b h = below_at n qs i b.1 (omega arith)
-
--- where a disjunction fails both parts do
-pub or_false : (x y : Bool) → (x || y) ≡ false → (x ≡ false) × (y ≡ false)
-or_false true y e = absurd (cc)
-or_false false y e = (refl, e)
 
 -- a qubit without a twin is none of the others
 no_twin : (q : ℕ) (qs : List ℕ) (j : ℕ) → list_any (λ r. r == q) qs ≡ false → j < length qs → get_or qs j 0 ≢ q
@@ -188,7 +193,7 @@ third false b c p q r = absurd (cc)
 
 -- the gates of a statement to which no row applies
 expanded_fits : (n : ℕ) (rs : List Register) (args : List Argument) (g : Known) → Inside n rs → (0 < g.arity) × IsCircuit g.arity g.gates
-    → takes_other (Some g) (length args) ≡ false → takes_bare (Some g) args ≡ false
+    → takes_other (Some g.arity) (length args) ≡ false → takes_bare (Some g.arity) args ≡ false
     → list_any (λ a. is_none (find_register rs a.name)) args ≡ false → list_any (λ a. is_outside (find_register rs a.name) a.index) args ≡ false
     → has_twins (flat_map (qubits_of rs) args) ≡ false → IsCircuit n (expanded g (flat_map (qubits_of rs) args))
 expanded_fits n rs args g i k other bare reg out twins = go (g.arity == 1) refl
@@ -210,9 +215,91 @@ expanded_fits n rs args g i k other bare reg out twins = go (g.arity == 1) refl
         let size : g.arity ≡ length qs = count ∙ sym (one_each rs args reg out (no_bare many)) in
         circuit_placed n qs g.gates (of_below n rs args i) twins (subst (λ (k : ℕ). IsCircuit k g.gates) size k.1)
 
+-- different numbers below 3 are at most 3
+few_apart : (qs : List ℕ) → Below 3 qs → has_twins qs ≡ false → length qs ≤ 3
+few_apart [] b t = omega arith
+few_apart (p ∷ []) b t = omega arith
+few_apart (p ∷ q ∷ []) b t = omega arith
+few_apart (p ∷ q ∷ r ∷ []) b t = omega arith
+few_apart (p ∷ q ∷ r ∷ s ∷ rest) b t =
+    let qs = p ∷ q ∷ r ∷ s ∷ rest in
+    absurd (none p q r s b.0 b.1.0 b.1.1.0 b.1.1.1.0
+    (apart qs 0 1 t (omega arith) (omega arith) (omega arith)) (apart qs 0 2 t (omega arith) (omega arith) (omega arith)) (apart qs 0 3 t (omega arith) (omega arith) (omega arith))
+    (apart qs 1 2 t (omega arith) (omega arith) (omega arith)) (apart qs 1 3 t (omega arith) (omega arith) (omega arith)) (apart qs 2 3 t (omega arith) (omega arith) (omega arith)))
+  where
+    none : (p q r s : ℕ) → p < 3 → q < 3 → r < 3 → s < 3 → p ≢ q → p ≢ r → p ≢ s → q ≢ r → q ≢ s → r ≢ s → ⊥
+    none p q r s a b c d e f g h i j = omega (arith, a, b, c, d, e, f, g, h, i, j)
+
+-- numbers below a small number are below 3
+below_three : (n : ℕ) (qs : List ℕ) → n ≤ 3 → Below n qs → Below 3 qs
+below_three n [] h b = tt
+below_three n (q ∷ qs) h b = (omega (arith, b.0), below_three n qs h b.1)
+
+-- different numbers below a small number are at most 3
+pub few_below : (n : ℕ) (qs : List ℕ) → n ≤ 3 → Below n qs → has_twins qs ≡ false → length qs ≤ 3
+few_below n qs h b t = few_apart qs (below_three n qs h b) t
+
+-- the gates of a good entry fit the names
+entry_fits : (gates : List ℕ → Option Known) (names : List (List ℕ)) (x : Entry) → AreSound gates → is_bad_entry gates names x ≡ false → IsCircuit (length names) (entry_gates gates names x)
+entry_fits gates names (Bar args) sound e = tt
+entry_fits gates names (Call name args) sound e =
+    let p = or_false (has_stranger names args) _ e in
+    go (gates name) refl p.0 p.1
+  where
+    go : (o : Option Known) → gates name ≡ o → has_stranger names args ≡ false → is_bad_call (option_map (λ g. g.arity) o) args ≡ false → IsCircuit (length names) (called o (map (place_among names) args))
+    go None f s b = absurd (cc)
+    go (Some g) f s b =
+        let q = or_false (not (g.arity == length args)) _ b in
+        let count : g.arity ≡ length (map (place_among names) args) = eqb-true _ _ (not-false _ q.0) ∙ sym (length-map args (place_among names)) in
+        circuit_placed (length names) (map (place_among names) args) g.gates (places_below names args s) (places_apart names args s q.1) (subst (λ (k : ℕ). IsCircuit k g.gates) count (sound name g f).1)
+
+-- and so do those of a good body
+pub body_fits : (gates : List ℕ → Option Known) (names : List (List ℕ)) (body : List Entry) → AreSound gates → list_any (is_bad_entry gates names) body ≡ false → IsCircuit (length names) (flat_map (entry_gates gates names) body)
+body_fits gates names [] sound e = tt
+body_fits gates names (x ∷ body) sound e =
+    let p = or_false (is_bad_entry gates names x) _ e in
+    circuit_append (length names) (entry_gates gates names x) _ (entry_fits gates names x sound p.0) (body_fits gates names body sound p.1)
+
+-- a good entry of few names has a gate of few arguments
+pub entry_narrow : (gates : List ℕ → Option Known) (names : List (List ℕ)) (name : List ℕ) (args : List (List ℕ)) → length names ≤ most_qubits → is_bad_entry gates names (Call name args) ≡ false
+    → IfSome (gates name) (λ g. g.arity ≤ most_qubits)
+entry_narrow gates names name args few e = let p = or_false (has_stranger names args) _ e in go (gates name) p.0 p.1
+  where
+    go : (o : Option Known) → has_stranger names args ≡ false → is_bad_call (option_map (λ g. g.arity) o) args ≡ false → IfSome o (λ g. g.arity ≤ most_qubits)
+    go None s b = tt
+    go (Some g) s b =
+        let q = or_false (not (g.arity == length args)) _ b in
+        let count : g.arity ≡ length args = eqb-true _ _ (not-false _ q.0) in
+        let low = few_below (length names) (map (place_among names) args) few (places_below names args s) (places_apart names args s q.1) in
+        omega (arith, count, low, length-map args (place_among names))
+
+-- a gate of a statement to which no row applies takes few arguments
+gate_narrow : (n : ℕ) (rs : List Register) (args : List Argument) (g : Known) → Inside n rs → n ≤ most_qubits
+    → takes_other (Some g.arity) (length args) ≡ false → takes_bare (Some g.arity) args ≡ false
+    → list_any (λ a. is_none (find_register rs a.name)) args ≡ false → list_any (λ a. is_outside (find_register rs a.name) a.index) args ≡ false
+    → has_twins (flat_map (qubits_of rs) args) ≡ false → g.arity ≤ most_qubits
+gate_narrow n rs args g i few other bare reg out twins =
+    ⊎_elim
+    (λ (one : nat_lt 1 g.arity ≡ true).
+    let all = one_each rs args reg out (third (nat_lt 1 g.arity) (g.arity == length args) _ one (eq-eqb _ _ count) bare) in
+    omega (arith, count, all, few_below n (flat_map (qubits_of rs) args) few (of_below n rs args i) twins))
+    (λ (one : nat_lt 1 g.arity ≡ false). omega (arith, ltb-false _ _ one))
+    (cases_Bool (nat_lt 1 g.arity))
+  where
+    count : g.arity ≡ length args
+    count = eqb-true _ _ (not-false _ other)
+
+-- nor does one that may be known
+gates_narrow : (o : Option Known) (n : ℕ) (rs : List Register) (args : List Argument) → Inside n rs → n ≤ most_qubits
+    → takes_other (option_map (λ g. g.arity) o) (length args) ≡ false → takes_bare (option_map (λ g. g.arity) o) args ≡ false
+    → list_any (λ a. is_none (find_register rs a.name)) args ≡ false → list_any (λ a. is_outside (find_register rs a.name) a.index) args ≡ false
+    → has_twins (flat_map (qubits_of rs) args) ≡ false → IfSome o (λ g. g.arity ≤ most_qubits)
+gates_narrow None n rs args i few other bare reg out twins = tt
+gates_narrow (Some g) n rs args i few other bare reg out twins = gate_narrow n rs args g i few other bare reg out twins
+
 -- the gates of a gate that may be known fit
 gates_fit : (gates : List ℕ → Option Known) → AreSound gates → (n : ℕ) (rs : List Register) (args : List Argument) (name : List ℕ) (o : Option Known) → gates name ≡ o → Inside n rs
-    → takes_other o (length args) ≡ false → takes_bare o args ≡ false
+    → takes_other (option_map (λ g. g.arity) o) (length args) ≡ false → takes_bare (option_map (λ g. g.arity) o) args ≡ false
     → list_any (λ a. is_none (find_register rs a.name)) args ≡ false → list_any (λ a. is_outside (find_register rs a.name) a.index) args ≡ false
     → has_twins (flat_map (qubits_of rs) args) ≡ false → IsCircuit n (gates_at o (flat_map (qubits_of rs) args))
 gates_fit gates sound n rs args name None e i other bare reg out twins = tt
@@ -228,17 +315,17 @@ some_qubit n rs (a ∷ args) i h e = go (find_register rs a.name) refl (or_false
     go (Some r) f g = let p = found_inside n rs a.name r i f in omega (arith, p.0, p.1)
 
 -- a statement takes no other number of arguments
-pub other_arity : (s : State) (p : Statement) → row_of s p ≡ None → has_other_arity (gate_in s.known p.form) p.form ≡ false
+pub other_arity : (s : State) (p : Statement) → row_of s p ≡ None → has_other_arity (arity_in s.known p.form) p.form ≡ false
 unfolding is_no_statement
 other_arity s p row =
-    let e : is_no_statement (gate_in s.known p.form) p ≡ false = unmet s p NoStatement row refl in
+    let e : is_no_statement (arity_in s.known p.form) p ≡ false = unmet s p NoStatement row refl in
     (or_false _ _ (or_false _ _ e).1).1
 
 -- a statement in the profile has no bare argument
-no_bare_argument : (s : State) (p : Statement) → row_of s p ≡ None → has_bare (gate_in s.known p.form) p.form ≡ false
+no_bare_argument : (s : State) (p : Statement) → row_of s p ≡ None → has_bare (arity_in s.known p.form) p.form ≡ false
 unfolding is_not_in_profile
 no_bare_argument s p row =
-    let e : is_not_in_profile (gate_in s.known p.form) p ≡ false = unmet s p NotInProfile row refl in
+    let e : is_not_in_profile (arity_in s.known p.form) p ≡ false = unmet s p NotInProfile row refl in
     (or_false _ _ (or_false _ _ e).1).1
 
 -- fewer statements than there may be stand before a statement to which no row applies
@@ -246,25 +333,31 @@ pub short_before : (s : State) (p : Statement) → row_of s p ≡ None → s.cou
 short_before s p row = leb-false _ _ (unmet s p TooLong row refl)
 
 -- what the code relies on holds of a statement to which no row applies
-pub takeable : (s : State) (ws : List Lexeme) (o : Option Form) → HasForm ws o → Inside s.qubits s.registers → AreSound s.known → row_of s (record { lexemes = ws; form = o }) ≡ None → IsTakeable s o
-takeable s ws None h i sound row = tt
-takeable s ws (Some (Include text)) h i sound row = tt
-takeable s ws (Some (Qreg name size)) h i sound row =
+pub takeable : (s : State) (ws : List Lexeme) (o : Option Form) → HasForm ws o → Inside s.qubits s.registers → s.qubits ≤ most_qubits → AreSound s.known → row_of s (record { lexemes = ws; form = o }) ≡ None → IsTakeable s o
+takeable s ws None h i few sound row = tt
+takeable s ws (Some (Include text)) h i few sound row = tt
+takeable s ws (Some (Qreg name size)) h i few sound row =
     let p : Statement = record { lexemes = ws; form = Some (Qreg name size) } in
     let taken : is_taken s p.form ≡ false = unmet s p TwoNames row refl in
     let index : has_bad_index s p.form ≡ false = unmet s p Index row refl in
-    let few : has_too_many_qubits s p.form ≡ false = unmet s p Qubits row refl in
+    let qubits : has_too_many_qubits s p.form ≡ false = unmet s p Qubits row refl in
     let some = eqb-false (value size) 0 (or_false _ _ index).0 in
-    ((or_false _ _ taken).1, omega (arith, some), ltb-false _ _ few)
-takeable s ws (Some (Creg name size)) h i sound row = tt
-takeable s ws (Some (Barrier args)) h i sound row = tt
-takeable s ws (Some (Apply name args)) h i sound row =
+    ((or_false _ _ taken).1, omega (arith, some), ltb-false _ _ qubits)
+takeable s ws (Some (Creg name size)) h i few sound row = tt
+takeable s ws (Some (Barrier args)) h i few sound row = tt
+takeable s ws (Some (Apply name args)) h i few sound row =
     let p : Statement = record { lexemes = ws; form = Some (Apply name args) } in
     let registers : has_no_register s p.form ≡ false = unmet s p UnknownRegister row refl in
     let index : has_bad_index s p.form ≡ false = unmet s p Index row refl in
     let twins : names_twice s p.form ≡ false = unmet s p SameQubit row refl in
     let t : has_too_many_t s p.form ≡ false = unmet s p TooManyT row refl in (
       some_qubit s.qubits s.registers args i h.1.1.0 registers,
+      gates_narrow (s.known name) s.qubits s.registers args i few (other_arity s p row) (no_bare_argument s p row) registers index twins,
       gates_fit s.known sound s.qubits s.registers args name (s.known name) refl i (other_arity s p row) (no_bare_argument s p row) registers index twins,
       ltb-false _ _ t,
     )
+takeable s ws (Some (Define name list body)) h i few sound row =
+    let p : Statement = record { lexemes = ws; form = Some (Define name list body) } in
+    let bad : has_bad_body s p.form ≡ false = unmet s p Body row refl in
+    let many : has_too_many_gates s p.form ≡ false = unmet s p TooManyGates row refl in
+    (omega (arith, h.1.1.0, length-map list bare), bad, ltb-false _ _ many)

@@ -1,7 +1,8 @@
 -- The forms of a statement: how each is spelled in tokens (OpenQASM 2.0).
--- An include, a register of qubits, a register of bits, a barrier, and a gate on arguments.
+-- An include, a register of qubits, a register of bits, a barrier, a gate on arguments, and a definition of a gate without
+-- parameters, whose body holds gates and barriers on its names.
 use Rattle.std.specs.Prelude.{◌≡◌, ℕ, ◌<◌, IsTrue, IfSome, List, [], ◌∷◌, ◌++◌, length, map, codes, Option, Some, None, MatchOption}
-use Rattle.std.specs.List.{AllByRecursion}
+use Rattle.std.specs.List.{AllByRecursion, flat_map}
 use Rattle.qasm_lex.specs.declared.token.Kind.{Kind}
 use Rattle.qasm_lex.specs.declared.token.Kind.TheVariants.{Ident, Number, Quoted, Semi, Comma, LeftBracket, RightBracket, LeftBrace, RightBrace, LeftParen, RightParen, Other}
 use Rattle.qasm_reader.specs.Lexemes.{Lexeme, is_free, is_whole}
@@ -11,13 +12,19 @@ pub record Argument : Type 0 where
   pub name : List ℕ
   pub index : Option (List ℕ)
 
--- what a statement says: the bytes of its quoted text, names and digits
+-- what an entry of a gate's body says: a barrier, or a gate, on names
+pub data Entry : Type 0 where
+  Bar : List (List ℕ) → Entry
+  Call : List ℕ → List (List ℕ) → Entry
+
+-- what a statement says: the bytes of its quoted text, names and digits; a definition has the gate's name, its names and its body
 pub data Form : Type 0 where
   Include : List ℕ → Form
   Qreg : List ℕ → List ℕ → Form
   Creg : List ℕ → List ℕ → Form
   Barrier : List Argument → Form
   Apply : List ℕ → List Argument → Form
+  Define : List ℕ → List (List ℕ) → List Entry → Form
 
 -- what a spelling says of a token: its kind, and its bytes where the kind leaves them open
 pub record Shape : Type 0 where
@@ -70,6 +77,19 @@ arguments [] = []
 arguments (a ∷ []) = argument a
 arguments (a ∷ b ∷ args) = argument a ++ mark Comma ∷ arguments (b ∷ args)
 
+-- a name as an argument
+abbrev pub bare : List ℕ → Argument
+bare name = record { name = name; index = None }
+
+-- names, separated by commas
+abbrev pub names : List (List ℕ) → List Shape
+names list = arguments (map bare list)
+
+-- how each entry of a body is spelled
+abbrev pub entry : Entry → List Shape
+entry (Bar args) = (ident (codes "barrier") ∷ names args) ++ mark Semi ∷ []
+entry (Call name args) = (ident name ∷ names args) ++ mark Semi ∷ []
+
 -- how each form is spelled
 abbrev pub spelled : Form → List Shape
 spelled (Include text) = (ident (codes "include") ∷ quoted text ∷ []) ++ mark Semi ∷ []
@@ -77,6 +97,7 @@ spelled (Qreg name size) = (ident (codes "qreg") ∷ ident name ∷ in_brackets 
 spelled (Creg name size) = (ident (codes "creg") ∷ ident name ∷ in_brackets size) ++ mark Semi ∷ []
 spelled (Barrier args) = (ident (codes "barrier") ∷ arguments args) ++ mark Semi ∷ []
 spelled (Apply name args) = (ident name ∷ arguments args) ++ mark Semi ∷ []
+spelled (Define name list body) = (ident (codes "gate") ∷ ident name ∷ (names list ++ mark LeftBrace ∷ flat_map entry body)) ++ mark RightBrace ∷ []
 
 abbrev pub IsArgument : Argument → Type 0
 IsArgument a = IsTrue (is_free a.name) × IfSome a.index (λ digits. IsTrue (is_whole digits))
@@ -84,13 +105,21 @@ IsArgument a = IsTrue (is_free a.name) × IfSome a.index (λ digits. IsTrue (is_
 abbrev pub AreArguments : List Argument → Type 0
 AreArguments args = (0 < length args) × AllByRecursion IsArgument args
 
--- its names aren't reserved, its digits have no point, and its arguments are one or more
+abbrev pub AreNames : List (List ℕ) → Type 0
+AreNames list = AreArguments (map bare list)
+
+abbrev pub IsEntry : Entry → Type 0
+IsEntry (Bar args) = AreNames args
+IsEntry (Call name args) = IsTrue (is_free name) × AreNames args
+
+-- its names aren't reserved, its digits have no point, and its arguments are one or more, as are a definition's names
 abbrev pub HasParts : Form → Type 0
 HasParts (Include text) = Unit {0}
 HasParts (Qreg name size) = IsTrue (is_free name) × IsTrue (is_whole size)
 HasParts (Creg name size) = IsTrue (is_free name) × IsTrue (is_whole size)
 HasParts (Barrier args) = AreArguments args
 HasParts (Apply name args) = IsTrue (is_free name) × AreArguments args
+HasParts (Define name list body) = IsTrue (is_free name) × AreNames list × AllByRecursion IsEntry body
 
 -- the lexemes are this form, spelled
 abbrev pub IsForm : List Lexeme → Form → Type 0

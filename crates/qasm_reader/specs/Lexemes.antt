@@ -69,12 +69,21 @@ is_name w = is_kind Ident w && is_free w.bytes
 abbrev pub is_digits : Lexeme → Bool
 is_digits w = is_kind Number w && is_whole w.bytes
 
--- the statements of `begun ++ ws`, cut behind each `;` of ws, where begun is the beginning of the first of them
+-- the kind of the token that ends a statement with this first token: `}` for a definition of a gate, and else `;`
+abbrev pub closer : Lexeme → Kind
+closer first = if is_ident (codes "gate") first then RightBrace else Semi
+
+-- whether the lexeme behind the beginning of a statement ends it
+abbrev pub closes : List Lexeme → Lexeme → Bool
+closes [] w = is_kind (closer w) w
+closes (first ∷ more) w = is_kind (closer first) w
+
+-- the statements of `begun ++ ws`, cut behind each token of ws that ends one, where begun is the beginning of the first of them
 unfoldable pub cut_behind : List Lexeme → List Lexeme → List (List Lexeme)
 cut_behind [] [] = []
 cut_behind (v ∷ vs) [] = (v ∷ vs) ∷ []
-cut_behind begun (w ∷ ws) = if is_kind Semi w then (begun ++ w ∷ []) ∷ cut_behind [] ws else cut_behind (begun ++ w ∷ []) ws
+cut_behind begun (w ∷ ws) = if closes begun w then (begun ++ w ∷ []) ∷ cut_behind [] ws else cut_behind (begun ++ w ∷ []) ws
 
--- the statements: each up to its `;`, and what stands behind the last `;`, if anything does
+-- the statements: each up to the token that ends it, and what stands behind the last such token, if anything does
 abbrev pub statements : List Lexeme → List (List Lexeme)
 statements ws = cut_behind [] ws

@@ -13,6 +13,10 @@ most_t_gates = 120
 abbrev pub most_statements : ℕ
 most_statements = 4096
 
--- the most gates that a statement stands for, as `y` on a register of three qubits does
-abbrev pub most_gates_each : ℕ
-most_gates_each = 18
+-- the most gates that a defined gate stands for, once all gates are written out
+abbrev pub most_gates_defined : ℕ
+most_gates_defined = 10000
+
+-- the most gates of a text, once all gates are written out
+abbrev pub most_gates : ℕ
+most_gates = 100000

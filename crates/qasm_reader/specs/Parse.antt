@@ -1,18 +1,24 @@
 -- The form of a statement, the length of the first statement and what is behind the header, as the code takes them: one
 -- function for each step. The public clauses say nothing of them.
-use Rattle.std.specs.Prelude.{ℕ, ◌+◌, ◌&&◌, List, [], ◌∷◌, map, codes, Option, Some, None, if◌then◌else◌, option_map, option_and_then}
-use Rattle.std.specs.List.{slice_split}
+use Rattle.std.specs.Prelude.{ℕ, ◌+◌, ◌&&◌, List, [], ◌∷◌, map, take, drop, codes, Option, Some, None, if◌then◌else◌, option_map, option_and_then}
+use Rattle.std.specs.List.{slice_split, position_or_len}
 use Rattle.std.specs.Str.{bytes_eq}
-use Rattle.qasm_lex.specs.declared.token.Kind.TheVariants.{Number, Quoted, Semi, Comma, LeftBracket, RightBracket}
+use Rattle.qasm_lex.specs.declared.token.Kind.{Kind}
+use Rattle.qasm_lex.specs.declared.token.Kind.TheVariants.{Number, Quoted, Semi, Comma, LeftBracket, RightBracket, LeftBrace}
 use Rattle.qasm_lex.specs.declared.token.Token.{Token}
-use Rattle.qasm_reader.specs.Lexemes.{Lexeme, is_same_kind, is_kind, is_ident, is_name, is_digits}
-use Rattle.qasm_reader.specs.Forms.{Argument, Form, Include, Qreg, Creg, Barrier, Apply}
+use Rattle.qasm_reader.specs.Lexemes.{Lexeme, lexeme_of, is_same_kind, is_kind, is_ident, is_name, is_digits, closer}
+use Rattle.qasm_reader.specs.Forms.{Argument, Entry, Bar, Call, Form, Include, Qreg, Creg, Barrier, Apply, Define}
 
--- the lexemes without a Semi at their end
+-- the lexemes without one of the kind at their end
+unfoldable pub without_last : Kind → List Lexeme → Option (List Lexeme)
+without_last kind [] = None
+without_last kind (w ∷ []) = if is_kind kind w then Some [] else None
+without_last kind (w ∷ v ∷ ws) = option_map (λ b. w ∷ b) (without_last kind (v ∷ ws))
+
+-- the lexemes without their closer at their end
 unfoldable pub body_of : List Lexeme → Option (List Lexeme)
 body_of [] = None
-body_of (w ∷ []) = if is_kind Semi w then Some [] else None
-body_of (w ∷ v ∷ ws) = option_map (λ b. w ∷ b) (body_of (v ∷ ws))
+body_of (w ∷ ws) = without_last (closer w) (w ∷ ws)
 
 -- `name [ digits ]`
 unfoldable pub indexed_at : List Lexeme → Option (List ℕ × List ℕ)
@@ -41,6 +47,52 @@ all_some (o ∷ os) = consed o (all_some os)
 unfoldable pub arguments_at : List Lexeme → Option (List Argument)
 arguments_at ws = all_some (map argument_at (slice_split (is_kind Comma) ws))
 
+abbrev pub bare_name : Argument → Option (List ℕ)
+bare_name a = elim a.index [ None ↦ Some a.name | Some digits ↦ None ]
+
+-- the names of arguments, if none has an index
+unfoldable pub names_of : List Argument → Option (List (List ℕ))
+names_of args = all_some (map bare_name args)
+
+-- names between commas
+unfoldable pub names_at : List Lexeme → Option (List (List ℕ))
+names_at ws = option_and_then names_of (arguments_at ws)
+
+-- an entry of a body, without its Semi
+unfoldable pub entry_at : List Lexeme → Option Entry
+entry_at [] = None
+entry_at (w ∷ ws) =
+    if is_ident (codes "barrier") w then option_map Bar (names_at ws)
+    else if is_name w then option_map (Call w.bytes) (names_at ws)
+    else None
+
+-- the entries of the parts behind each of which a Semi stands, but for the last part, which is empty
+abbrev pub entries_in : List (List Lexeme) → Option (List Entry)
+entries_in [] = None
+entries_in ([] ∷ []) = Some []
+entries_in ((w ∷ ws) ∷ []) = None
+entries_in (p ∷ q ∷ ps) = consed (entry_at p) (entries_in (q ∷ ps))
+
+-- the entries of a body
+unfoldable pub entries_at : List Lexeme → Option (List Entry)
+entries_at ws = entries_in (slice_split (is_kind Semi) ws)
+
+abbrev pub entries_behind : List Lexeme → Option (List Entry)
+entries_behind [] = None
+entries_behind (brace ∷ ws) = entries_at ws
+
+abbrev pub both : {A B C : Type 0} → (A → B → C) → Option A → Option B → Option C
+both f None y = None
+both f (Some x) None = None
+both f (Some x) (Some y) = Some (f x y)
+
+-- the definition behind its word
+unfoldable pub definition_at : List Lexeme → Option Form
+definition_at [] = None
+definition_at (n ∷ ws) =
+    let size = position_or_len (is_kind LeftBrace) ws in
+    if is_name n then both (Define n.bytes) (names_at (take size ws)) (entries_behind (drop size ws)) else None
+
 unfoldable pub include_at : List Lexeme → Option Form
 include_at (q ∷ []) = if is_kind Quoted q then Some (Include q.bytes) else None
 include_at other = None
@@ -50,6 +102,7 @@ form_behind w ws =
     if is_ident (codes "include") w then include_at ws
     else if is_ident (codes "qreg") w then option_map (λ x. Qreg x.0 x.1) (indexed_at ws)
     else if is_ident (codes "creg") w then option_map (λ x. Creg x.0 x.1) (indexed_at ws)
+    else if is_ident (codes "gate") w then definition_at ws
     else if is_ident (codes "barrier") w then option_map Barrier (arguments_at ws)
     else if is_name w then option_map (Apply w.bytes) (arguments_at ws)
     else None
@@ -67,7 +120,12 @@ headed_at (a ∷ b ∷ c ∷ ws) =
     if is_ident (codes "OPENQASM") a && ((is_kind Number b && bytes_eq b.bytes (codes "2.0")) && is_kind Semi c) then Some ws else None
 headed_at other = None
 
--- how many tokens the first statement has
-abbrev pub first_len : List Token → ℕ
-first_len [] = 0
-first_len (t ∷ ts) = if is_same_kind Semi t.kind then 1 else 1 + first_len ts
+-- how many tokens there are up to the first of the kind, with it, or all of them
+abbrev pub len_up_to : Kind → List Token → ℕ
+len_up_to kind [] = 0
+len_up_to kind (t ∷ ts) = if is_same_kind kind t.kind then 1 else 1 + len_up_to kind ts
+
+-- how many tokens of the text the first statement has
+abbrev pub first_len : List ℕ → List Token → ℕ
+first_len text [] = 0
+first_len text (t ∷ ts) = len_up_to (closer (lexeme_of text t)) (t ∷ ts)

@@ -1,19 +1,19 @@
 -- What the private functions say of a scan: one statement taken, and all of them.
-use Rattle.std.specs.Prelude.{◌≡◌, ◌+◌, ◌<◌, ◌≤◌, false, List, map, Option, Some, None, Ok, Err}
+use Rattle.std.specs.Prelude.{◌≡◌, ◌+◌, ◌<◌, ◌≤◌, false, List, length, map, Option, Some, None, Ok, Err, IfSome}
 use Rattle.tc_circuit.specs.Model.{IsCircuit, t_count_of}
 use Rattle.qasm_reader.specs.declared.fault.ReadFault.{ReadFault}
 use Rattle.qasm_reader.specs.declared.fault.ReadFault.TheVariants.{Refused, Memory}
 use Rattle.qasm_reader.specs.declared.refusal.Refusal.{Refusal}
 use Rattle.qasm_reader.specs.declared.scan.Scan.{Scan}
 use Rattle.qasm_reader.specs.Lexemes.{Lexeme, statements}
-use Rattle.qasm_reader.specs.Forms.{Form, Qreg, Apply}
+use Rattle.qasm_reader.specs.Forms.{Form, Qreg, Apply, Define}
 use Rattle.qasm_reader.specs.Parse.{form_of}
-use Rattle.qasm_reader.specs.State.{State, start, value, gates_in, after}
-use Rattle.qasm_reader.specs.Limits.{most_qubits, most_t_gates}
+use Rattle.qasm_reader.specs.State.{State, start, value, gates_in, defined, after}
+use Rattle.qasm_reader.specs.Limits.{most_qubits, most_t_gates, most_gates_defined}
 use Rattle.qasm_reader.specs.Refusals.{number_of}
-use Rattle.qasm_reader.specs.Rows.{Statement, row_of}
+use Rattle.qasm_reader.specs.Rows.{Statement, has_bad_body, row_of}
 use Rattle.qasm_reader.specs.Read.{place_of, scan}
-use Rattle.qasm_reader.specs.View.{state}
+use Rattle.qasm_reader.specs.View.{state, AreKept}
 
 -- a statement with its form
 abbrev pub statement_at : List Lexeme → Statement
@@ -22,15 +22,17 @@ statement_at ws = record { lexemes = ws; form = form_of ws }
 abbrev pub stated : List (List Lexeme) → List Statement
 stated wss = map statement_at wss
 
--- what the code relies on where it takes a form: qubits come before gates and are few, and gates fit and have few T gates
+-- what the code relies on where it takes a form: qubits come before gates and are few; gates fit, have few T gates and are of
+-- a gate that takes few arguments; and a defined gate has names, a body that is good, and few gates
 abbrev pub IsTakeable : State → Option Form → Type 0
 IsTakeable s (Some (Qreg name size)) = (s.began ≡ false) × (0 < value size) × (s.qubits + value size ≤ most_qubits)
-IsTakeable s (Some (Apply name args)) = (0 < s.qubits) × IsCircuit s.qubits (gates_in s (Some (Apply name args))) × (t_count_of s.gates + t_count_of (gates_in s (Some (Apply name args))) ≤ most_t_gates)
+IsTakeable s (Some (Define name names body)) = (0 < length names) × (has_bad_body s (Some (Define name names body)) ≡ false) × (length (defined s.known names body).gates ≤ most_gates_defined)
+IsTakeable s (Some (Apply name args)) = (0 < s.qubits) × (IfSome (s.known name) (λ g. g.arity ≤ most_qubits)) × IsCircuit s.qubits (gates_in s (Some (Apply name args))) × (t_count_of s.gates + t_count_of (gates_in s (Some (Apply name args))) ≤ most_t_gates)
 IsTakeable s other = Unit {0}
 
 -- no row applies to the statement, and this holds behind it
 abbrev pub Takes : State → List Lexeme → Scan → Type 0
-Takes s ws t = (row_of s (statement_at ws) ≡ None) × (state t ≡ after s (form_of ws))
+Takes s ws t = (row_of s (statement_at ws) ≡ None) × (state t ≡ after s (form_of ws)) × AreKept t.definitions.items
 
 -- the fault is the first row that applies to the statement, at its first token, or want of memory
 abbrev pub IsRowFault : State → List Lexeme → ReadFault → Type 0

@@ -1,10 +1,10 @@
 -- What the statements of a text have said before one of them, and what each form adds to it (OpenQASM 2.0).
-use Rattle.std.specs.Prelude.{ℕ, ◌+◌, ◌-◌, ◌*◌, Bool, true, false, ◌==◌, ◌||◌, List, [], ◌∷◌, ◌++◌, map, Option, Some, None, if◌then◌else◌, nat_lt, slice_index, fold}
-use Rattle.std.specs.List.{flat_map, range_with_len}
+use Rattle.std.specs.Prelude.{ℕ, ◌+◌, ◌-◌, ◌*◌, Bool, true, false, ◌==◌, ◌||◌, List, [], ◌∷◌, ◌++◌, length, map, Option, Some, None, if◌then◌else◌, nat_lt, slice_index, fold}
+use Rattle.std.specs.List.{flat_map, range_with_len, position_or_len}
 use Rattle.std.specs.Str.{bytes_eq}
 use Rattle.tc_circuit.specs.declared.circuit.Gate.{Gate}
 use Rattle.tc_circuit.specs.declared.circuit.Gate.TheVariants.{H, S, Sdg, T, Tdg, Cx}
-use Rattle.qasm_reader.specs.Forms.{Argument, Form, Qreg, Creg, Apply}
+use Rattle.qasm_reader.specs.Forms.{Argument, Entry, Bar, Call, Form, Qreg, Creg, Apply, Define}
 use Rattle.qasm_reader.specs.Known.{Known, known}
 
 -- a register of qubits: its name, its first qubit, and how many it has
@@ -79,6 +79,27 @@ gate_in known other = None
 abbrev pub gates_in : State → Option Form → List Gate
 gates_in s f = gates_at (gate_in s.known f) (gate_qubits s f)
 
+-- the place of a name among names
+abbrev pub place_among : List (List ℕ) → List ℕ → ℕ
+place_among names name = position_or_len (bytes_eq name) names
+
+abbrev pub called : Option Known → List ℕ → List Gate
+called None places = []
+called (Some g) places = map (placed places) g.gates
+
+-- the gates of an entry of a body, whose qubits are the places of the body's names
+abbrev pub entry_gates : (List ℕ → Option Known) → List (List ℕ) → Entry → List Gate
+entry_gates known names (Bar args) = []
+entry_gates known names (Call name args) = called (known name) (map (place_among names) args)
+
+-- the gate that is defined by a body on names, where these gates are known: the gates of its entries in order
+abbrev pub defined : (List ℕ → Option Known) → List (List ℕ) → List Entry → Known
+defined known names body = record { arity = length names; gates = flat_map (entry_gates known names) body }
+
+-- the known gates, and one more
+abbrev pub with_gate : List ℕ → Known → (List ℕ → Option Known) → List ℕ → Option Known
+with_gate name g known other = if bytes_eq other name then Some g else known other
+
 -- the names, and one more
 abbrev pub with_name : List ℕ → (List ℕ → Bool) → List ℕ → Bool
 with_name name named other = bytes_eq other name || named other
@@ -92,6 +113,7 @@ declared s (Some (Qreg name size)) = record s {
 }
 declared s (Some (Creg name size)) = record s { named = with_name name s.named }
 declared s (Some (Apply name args)) = record s { began = true; gates = s.gates ++ gates_in s (Some (Apply name args)) }
+declared s (Some (Define name names body)) = record s { known = with_gate name (defined s.known names body) s.known }
 declared s other = s
 
 -- what holds behind a statement: what its form adds, and that there is one statement more

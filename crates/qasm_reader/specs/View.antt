@@ -1,24 +1,30 @@
 -- What the code's values say, apart from where they lie in memory.
-use Rattle.std.specs.Prelude.{◌≡◌, ℕ, Bool, List, [], map, Option, Some, None, option_map, is_some}
+use Rattle.std.specs.Prelude.{◌≡◌, ℕ, ◌<◌, ◌≤◌, Bool, List, [], ◌∷◌, length, map, min, Option, Some, None, option_map, is_some, ◌+◌, ◌*◌, ◌==◌, if◌then◌else◌}
 use Rattle.std.specs.List.{list_any}
 use Rattle.std.specs.Str.{bytes_eq}
 use Rattle.std.specs.BTreeSet.{BTreeSet}
 use Rattle.tc_circuit.specs.Circuit.{Gates}
+use Rattle.tc_circuit.specs.Model.{IsCircuit, t_count_of}
 use Rattle.tc_circuit.specs.declared.circuit.Gate.{Gate}
 use Rattle.qasm_reader.specs.declared.lexemes.Lexeme.{Lexeme as CodeLexeme}
 use Rattle.qasm_reader.specs.declared.forms.Argument.{Argument as CodeArgument}
 use Rattle.qasm_reader.specs.declared.forms.Form.{Form as CodeForm}
-use Rattle.qasm_reader.specs.declared.forms.Form.TheVariants.{Include as CodeInclude, Qreg as CodeQreg, Creg as CodeCreg, Barrier as CodeBarrier, Apply as CodeApply}
+use Rattle.qasm_reader.specs.declared.forms.Form.TheVariants.{Include as CodeInclude, Qreg as CodeQreg, Creg as CodeCreg, Barrier as CodeBarrier, Apply as CodeApply, Define as CodeDefine}
+use Rattle.qasm_reader.specs.declared.forms.Entry.{Entry as CodeEntry}
+use Rattle.qasm_reader.specs.declared.forms.Entry.TheVariants.{Barrier as CodeBar, Call as CodeCall}
 use Rattle.qasm_reader.specs.declared.gates.Known.{Known as CodeKnown}
+use Rattle.qasm_reader.specs.declared.gates.Size.{Size}
+use Rattle.qasm_reader.specs.declared.scan.Defined.{Defined}
 use Rattle.qasm_reader.specs.declared.statements.Statement.{Statement as CodeStatement}
 use Rattle.qasm_reader.specs.declared.scan.Register.{Register as CodeRegister}
 use Rattle.qasm_reader.specs.declared.scan.Scan.{Scan as CodeScan}
-use Rattle.qasm_reader.specs.State.{Register, State, gate_in, gate_qubits}
-use Rattle.qasm_reader.specs.Rows.{Statement}
+use Rattle.qasm_reader.specs.State.{Register, State, gate_in, gate_qubits, expanded, defined, with_gate}
+use Rattle.qasm_reader.specs.Rows.{Statement, has_bad_body}
+use Rattle.qasm_reader.specs.Limits.{most_qubits, most_gates_defined}
 use denote.Ref.{Bor}
 use Rattle.qasm_reader.specs.Known.{Known, known}
 use Rattle.qasm_reader.specs.Lexemes.{Lexeme}
-use Rattle.qasm_reader.specs.Forms.{Argument, Form, Include, Qreg, Creg, Barrier, Apply}
+use Rattle.qasm_reader.specs.Forms.{Argument, Entry, Bar, Call, Form, Include, Qreg, Creg, Barrier, Apply, Define}
 
 abbrev pub lexeme : CodeLexeme → Lexeme
 lexeme w = record { kind = w.kind; bytes = w.bytes.now; place = w.place }
@@ -32,12 +38,23 @@ argument a = record { name = a.name.now; index = option_map (λ b. b.now) a.inde
 abbrev pub arguments : List CodeArgument → List Argument
 arguments args = map argument args
 
+abbrev pub name_list : List (Bor (List ℕ)) → List (List ℕ)
+name_list list = map (λ b. b.now) list
+
+abbrev pub entry : CodeEntry → Entry
+entry (CodeBar args) = Bar (name_list args.items)
+entry (CodeCall name args) = Call name.now (name_list args.items)
+
+abbrev pub entries : List CodeEntry → List Entry
+entries body = map entry body
+
 abbrev pub form : CodeForm → Form
 form (CodeInclude text) = Include text.now
 form (CodeQreg name size) = Qreg name.now size.now
 form (CodeCreg name size) = Creg name.now size.now
 form (CodeBarrier args) = Barrier (arguments args.items)
 form (CodeApply name args) = Apply name.now (arguments args.items)
+form (CodeDefine d) = Define d.name.now (name_list d.names.items) (entries d.body.items)
 
 abbrev pub known_gate : CodeKnown → Known
 known_gate k = record { arity = k.arity; gates = k.gates.now }
@@ -57,22 +74,92 @@ abbrev pub gates_made : Option Gates → List Gate
 gates_made None = []
 gates_made (Some c) = c.gates
 
+-- how many arguments a gate takes, how many gates it stands for, and how many of them are T gates
+abbrev pub size_of : Known → Size
+size_of g = record { arity = g.arity; length = length g.gates; t_count = t_count_of g.gates }
+
+-- the gate that is defined where these are known
+abbrev pub gate_of : (List ℕ → Option Known) → Defined → Known
+gate_of known d = defined known (name_list d.definition.names.items) (entries d.definition.body.items)
+
+-- the gates that are known behind definitions, one after another
+abbrev pub known_behind : (List ℕ → Option Known) → List Defined → List ℕ → Option Known
+known_behind known [] = known
+known_behind known (d ∷ ds) = known_behind (with_gate d.definition.name.now (gate_of known d) known) ds
+
 -- what a scan has found so far
 abbrev pub state : CodeScan → State
 state s = record {
   registers = registers s.registers.items;
   named = names s.names;
-  known = known;
+  known = known_behind known s.definitions.items;
   qubits = s.qubits;
   began = is_some s.circuit;
   gates = gates_made s.circuit;
   count = s.count;
 }
 
+-- what is kept of a defined gate is the gate's: its size, and its gates where it can be applied to qubits; it takes an argument,
+-- its gates fit its arguments, and they are few
+pub record IsKept (g : Known) (d : Defined) : Type 0 where
+  pub size : d.size ≡ size_of g
+  pub gates : g.arity ≤ most_qubits → d.gates.items ≡ g.gates
+  pub some : 0 < g.arity
+  pub fit : IsCircuit g.arity g.gates
+  pub few : length g.gates ≤ most_gates_defined
+
+abbrev pub AreKeptBehind : (List ℕ → Option Known) → List Defined → Type 0
+AreKeptBehind known [] = Unit {0}
+AreKeptBehind known (d ∷ ds) = IsKept (gate_of known d) d × AreKeptBehind (with_gate d.definition.name.now (gate_of known d) known) ds
+
+-- and so it is of all definitions
+abbrev pub AreKept : List Defined → Type 0
+AreKept ds = AreKeptBehind known ds
+
+-- the definition of the known gate, which is kept
+pub record IsDefinedAs (o : Option Known) (d : Defined) : Type 0 where
+  pub gate : Known
+  pub is : o ≡ Some gate
+  pub kept : IsKept gate d
+
 abbrev pub statement_of : CodeStatement → Statement
 statement_of p = record { lexemes = lexemes p.lexemes.now; form = option_map form p.form }
 
--- the gate and the qubits of the statement are those that its form names behind this state
+-- the gate that a form defines, if it defines one
+abbrev pub gate_defined : State → Option Form → Known
+gate_defined s (Some (Define name names body)) = defined s.known names body
+gate_defined s other = record { arity = 0; gates = [] }
+
+-- the size, where numbers of gates are counted up to one more than the most gates of a defined gate
+abbrev pub counted_size : Known → Size
+counted_size g = record { arity = g.arity; length = min (length g.gates) (most_gates_defined + 1); t_count = min (t_count_of g.gates) (most_gates_defined + 1) }
+
+abbrev pub size_or_nothing : Option Size → Size
+size_or_nothing None = record { arity = 0; length = 0; t_count = 0 }
+size_or_nothing (Some size) = size
+
+-- how many gates there are where a gate of this number of arguments, with so many gates, is applied to so many qubits
+abbrev pub times : ℕ → ℕ → ℕ → ℕ
+times arity count qubits = if arity == 1 then count * qubits else count
+
+-- how many of what is counted there are where a gate of this size, which may be known, is applied to so many qubits
+abbrev pub count_at : (Size → ℕ) → Option Size → ℕ → ℕ
+count_at count None qubits = 0
+count_at count (Some size) qubits = times size.arity (count size) qubits
+
+-- the gates that a known gate stands for
+abbrev pub gates_of : Option Known → List Gate
+gates_of None = []
+gates_of (Some g) = g.gates
+
+-- these gates on these qubits, where the gate that stands for them has this size, if it is known
+abbrev pub gates_with : Option Size → List Gate → List ℕ → List Gate
+gates_with None gates qs = []
+gates_with (Some size) gates qs = expanded (record { arity = size.arity; gates = gates }) qs
+
+-- what the statement says of its gate, its qubits and its body is what its form says behind this state
 pub record IsBehind (s : State) (p : CodeStatement) : Type 0 where
-  pub gate : option_map known_gate p.gate ≡ gate_in s.known (option_map form p.form)
+  pub size : p.size ≡ option_map size_of (gate_in s.known (option_map form p.form))
   pub qubits : p.qubits.items ≡ gate_qubits s (option_map form p.form)
+  pub bad : p.has_bad_body ≡ has_bad_body s (option_map form p.form)
+  pub body : p.body ≡ counted_size (gate_defined s (option_map form p.form))

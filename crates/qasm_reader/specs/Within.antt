@@ -5,7 +5,7 @@ use Rattle.tc_circuit.specs.Model.{t_count_of}
 use Rattle.qasm_reader.specs.Lexemes.{Lexeme}
 use Rattle.qasm_reader.specs.Forms.{Argument, Form, Include, Qreg, Apply, IsForm}
 use Rattle.qasm_reader.specs.Known.{Known}
-use Rattle.qasm_reader.specs.Limits.{most_qubits, most_t_gates, most_statements}
+use Rattle.qasm_reader.specs.Limits.{most_qubits, most_t_gates, most_gates, most_statements}
 use Rattle.qasm_reader.specs.State.{Register, State, value, find_register, qubits_of, expanded}
 use Rattle.qasm_reader.specs.Rows.{has_twins, row_of}
 
@@ -29,13 +29,14 @@ pub record IsNewRegister (s : State) (name size : List ℕ) : Type 0 where
   pub few : s.qubits + value size ≤ most_qubits
   pub short : s.count < most_statements
 
--- the gate takes as many arguments, each has an index, they name different qubits, with its gates there are few T gates, and few
--- statements stand before it
+-- the gate takes as many arguments, each has an index, they name different qubits, with its gates there are few T gates and few
+-- gates, and few statements stand before it
 pub record IsNewGate (s : State) (g : Known) (args : List Argument) : Type 0 where
   pub arity : g.arity ≡ length args
   pub indexed : AllByRecursion (IsIndexed s.registers) args
   pub apart : has_twins (flat_map (qubits_of s.registers) args) ≡ false
   pub low : t_count_of s.gates + t_count_of (expanded g (flat_map (qubits_of s.registers) args)) ≤ most_t_gates
+  pub few : length s.gates + length (expanded g (flat_map (qubits_of s.registers) args)) ≤ most_gates
   pub short : s.count < most_statements
 
 -- includes of the library are taken, behind few statements

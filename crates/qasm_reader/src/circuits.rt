@@ -1,11 +1,11 @@
 // Known gates on the qubits of a circuit.
-ghost use Rattle.std.specs.Prelude.{◌≡◌, ◌∷◌, [], ◌++◌, map, min, OnOk, slice_index, Option, option_map};
+ghost use Rattle.std.specs.Prelude.{◌≡◌, ◌∷◌, [], ◌++◌, length, map, min, OnOk, slice_index, Option, option_map};
 ghost use Rattle.std.specs.List.{flat_map};
 ghost use Rattle.tc_circuit.specs.Model.{IsCircuit, t_count_of};
-ghost use Rattle.qasm_reader.specs.State.{placed, gates_at};
-ghost use Rattle.qasm_reader.specs.View.{known_gate};
+ghost use Rattle.qasm_reader.specs.State.{placed};
+ghost use Rattle.qasm_reader.specs.View.{gates_with, times, count_at};
 
-use crate::gates::Known;
+use crate::gates::Size;
 use std::alloc::AllocError;
 use tc_circuit::{Circuit, Gate};
 
@@ -16,7 +16,7 @@ fn qubit_at(qubits: &[u8], a: u8) -> u8
 }
 
 // The gate with qubits in place of the numbers of the arguments.
-fn placed(qubits: &[u8], gate: Gate) -> Gate
+pub(crate) fn placed(qubits: &[u8], gate: Gate) -> Gate
     ensures { result ≡ placed qubits.now gate }
 {
     match gate {
@@ -51,29 +51,30 @@ fn push_each(circuit: &mut Circuit, gates: &[Gate], qubits: &[u8]) -> Result<(),
     Ok(())
 }
 
-// Adds the gates of a gate that may be known on these qubits.
+// Adds the gates of a gate of this size, which may be known, on these qubits.
 pub(crate) fn push_gates(
     circuit: &mut Circuit,
-    known: Option<Known>,
+    size: Option<Size>,
+    gates: &[Gate],
     qubits: &[u8],
 ) -> Result<(), AllocError>
-    requires { IsCircuit circuit.old.qubits (gates_at (option_map known_gate known) qubits.now) }
+    requires { IsCircuit circuit.old.qubits (gates_with size gates.now qubits.now) }
     ensures qubits { circuit.new.qubits ≡ circuit.old.qubits }
-    ensures gates { OnOk result (circuit.new.gates ≡ circuit.old.gates ++ gates_at (option_map known_gate known.entry) qubits.now) }
+    ensures gates { OnOk result (circuit.new.gates ≡ circuit.old.gates ++ gates_with size gates.now qubits.now) }
 {
-    match known {
+    match size {
         None => Ok(()),
-        Some(gate) => {
-            if gate.arity == 1 {
-                push_each(circuit, gate.gates, qubits)
+        Some(size) => {
+            if size.arity == 1 {
+                push_each(circuit, gates, qubits)
             } else {
-                push_placed(circuit, gate.gates, qubits)
+                push_placed(circuit, gates, qubits)
             }
         }
     }
 }
 
-fn t_count(gates: &[Gate]) -> usize
+pub(crate) fn t_count(gates: &[Gate]) -> usize
     ensures { result ≡ t_count_of gates.now }
 {
     gates
@@ -82,19 +83,34 @@ fn t_count(gates: &[Gate]) -> usize
         .count()
 }
 
-// How many T gates a gate that may be known has on these qubits, or the greatest number where it has more.
-pub(crate) fn t_count_at(known: Option<Known>, qubits: &[u8]) -> usize
-    ensures { result ≡ min (t_count_of (gates_at (option_map known_gate known.entry) qubits.now)) usize.MAX }
+// How many gates there are where a gate of this number of arguments, with so many gates, is applied to so many qubits, or the
+// greatest number where there are more.
+pub(crate) fn times(arity: usize, count: usize, qubits: usize) -> usize
+    ensures { result ≡ min (times arity count qubits) usize.MAX }
 {
-    match known {
+    if arity == 1 {
+        count.saturating_mul(qubits)
+    } else {
+        count
+    }
+}
+
+// How many T gates a gate of this size, which may be known, has on these qubits, or the greatest number where it has more.
+pub(crate) fn t_count_at(size: Option<Size>, qubits: &[u8]) -> usize
+    ensures { result ≡ min (count_at (λ z. z.t_count) size (length qubits.now)) usize.MAX }
+{
+    match size {
         None => 0,
-        Some(gate) => {
-            let count = t_count(gate.gates);
-            if gate.arity == 1 {
-                count.saturating_mul(qubits.len())
-            } else {
-                count
-            }
-        }
+        Some(size) => times(size.arity, size.t_count, qubits.len()),
+    }
+}
+
+// How many gates it has on them, or the greatest number where it has more.
+pub(crate) fn length_at(size: Option<Size>, qubits: &[u8]) -> usize
+    ensures { result ≡ min (count_at (λ z. z.length) size (length qubits.now)) usize.MAX }
+{
+    match size {
+        None => 0,
+        Some(size) => times(size.arity, size.length, qubits.len()),
     }
 }

@@ -1,28 +1,37 @@
 // What a statement adds to the scan.
-ghost use Rattle.std.specs.Prelude.{◌≡◌, ◌+◌, ◌<◌, ◌≤◌, true, false, [], ◌∷◌, ◌++◌, IfOk, Option, option_map};
+ghost use Rattle.std.specs.Prelude.{◌≡◌, ◌+◌, ◌<◌, ◌≤◌, true, false, [], ◌∷◌, ◌++◌, length, IfOk, IfSome, Option, option_map};
+ghost use Rattle.std.specs.List.{list_any};
+ghost use Rattle.qasm_reader.specs.Forms.{Define};
+ghost use Rattle.qasm_reader.specs.Known.{known};
+ghost use Rattle.qasm_reader.specs.Rows.{is_bad_entry};
 ghost use Rattle.std.specs.Option.{ForSome};
 ghost use Rattle.tc_circuit.specs.Model.{IsCircuit, t_count_of};
 ghost use Rattle.qasm_reader.specs.Limits.{most_qubits, most_t_gates, most_statements};
-ghost use Rattle.qasm_reader.specs.State.{value, start, with_name, gates_at, declared, after};
+ghost use Rattle.qasm_reader.specs.State.{value, start, with_name, gates_at, defined, declared, after};
 ghost use Rattle.qasm_reader.specs.Run.{IsTakeable};
-ghost use Rattle.qasm_reader.specs.View.{form, known_gate, gates_made, IsBehind, state};
+ghost use Rattle.qasm_reader.specs.View.{form, name_list, entries, size_of, counted_size, known_behind, gates_made, IsBehind, AreKept, state};
 
+use crate::bodies::gates_defined;
 use crate::circuits::{push_gates, t_count_at};
+use crate::definitions::gates_by_name;
 use crate::finding::{add_name, small_value};
-use crate::forms::Form;
-use crate::gates::Known;
-use crate::scan::{Register, Scan};
+use crate::forms::{Definition, Form};
+use crate::gates::Size;
+use crate::limits::MOST_QUBITS;
+use crate::scan::{Defined, Register, Scan};
 use crate::statements::Statement;
 use std::alloc::{AllocError, Global};
 use std::collections::BTreeSet;
-use tc_circuit::Circuit;
+use tc_circuit::{Circuit, Gate};
 
 pub(crate) fn new_scan<'a>(alloc: Global) -> Scan<'a>
-    ensures { state result ≡ start }
+    ensures value { state result ≡ start }
+    ensures kept { AreKept result.definitions.items }
 {
     Scan {
         registers: Vec::new(alloc),
         names: BTreeSet::new(alloc),
+        definitions: Vec::new(alloc),
         qubits: 0,
         circuit: None,
         t_count: 0,
@@ -33,7 +42,8 @@ pub(crate) fn new_scan<'a>(alloc: Global) -> Scan<'a>
 // One statement more.
 fn counted<'a>(scan: Scan<'a>) -> Scan<'a>
     requires { scan.count < most_statements }
-    ensures { state result ≡ record (state scan.entry) { count = (state scan.entry).count + 1 } }
+    ensures value { state result ≡ record (state scan.entry) { count = (state scan.entry).count + 1 } }
+    ensures kept { result.definitions.items ≡ scan.entry.definitions.items }
 {
     let mut scan = scan;
     scan.count += 1;
@@ -42,7 +52,8 @@ fn counted<'a>(scan: Scan<'a>) -> Scan<'a>
 
 // One register of bits more, of which only the name is kept.
 fn with_creg<'a>(scan: Scan<'a>, name: &'a [u8]) -> Result<Scan<'a>, AllocError>
-    ensures { IfOk result (λ s. state s ≡ record (state scan.entry) { named = with_name name.now (state scan.entry).named }) }
+    ensures value { IfOk result (λ s. state s ≡ record (state scan.entry) { named = with_name name.now (state scan.entry).named }) }
+    ensures kept { IfOk result (λ s. s.definitions.items ≡ scan.entry.definitions.items) }
 {
     let mut scan = scan;
     add_name(&mut scan.names, name)?;
@@ -54,11 +65,12 @@ fn with_qreg<'a>(scan: Scan<'a>, name: &'a [u8], size: &[u8]) -> Result<Scan<'a>
     requires first { (state scan).began ≡ false }
     requires some { 0 < value size.now }
     requires few { scan.qubits + value size.now ≤ most_qubits }
-    ensures { IfOk result (λ s. state s ≡ record (state scan.entry) {
+    ensures value { IfOk result (λ s. state s ≡ record (state scan.entry) {
       registers = (state scan.entry).registers ++ record { name = name.now; first = (state scan.entry).qubits; size = value size.now } ∷ [];
       named = with_name name.now (state scan.entry).named;
       qubits = (state scan.entry).qubits + value size.now;
     }) }
+    ensures kept { IfOk result (λ s. s.definitions.items ≡ scan.entry.definitions.items) }
 {
     let mut scan = scan;
     let size = small_value(size);
@@ -83,55 +95,118 @@ fn begun(alloc: Global, n: u8, circuit: Option<Circuit>) -> Circuit
     }
 }
 
-// The gates of a gate that may be known on these qubits more.
+// The gates of the gate of a name, which may be known, on these qubits more.
 fn with_gates<'a>(
     alloc: Global,
     scan: Scan<'a>,
-    known: Option<Known>,
+    name: &[u8],
+    size: Option<Size>,
     qubits: &[u8],
 ) -> Result<Scan<'a>, AllocError>
+    requires kept { AreKept scan.definitions.items }
+    requires is { size ≡ option_map size_of ((state scan).known name.now) }
+    requires narrow { IfSome ((state scan).known name.now) (λ g. g.arity ≤ most_qubits) }
     requires some { 0 < scan.qubits }
-    requires fit { IsCircuit scan.qubits (gates_at (option_map known_gate known) qubits.now) }
-    requires few { t_count_of (state scan).gates + t_count_of (gates_at (option_map known_gate known) qubits.now) ≤ most_t_gates }
-    ensures { IfOk result (λ s. state s ≡ record (state scan.entry) {
+    requires fit { IsCircuit scan.qubits (gates_at ((state scan).known name.now) qubits.now) }
+    requires few { t_count_of (state scan).gates + t_count_of (gates_at ((state scan).known name.now) qubits.now) ≤ most_t_gates }
+    ensures value { IfOk result (λ s. state s ≡ record (state scan.entry) {
       began = true;
-      gates = (state scan.entry).gates ++ gates_at (option_map known_gate known.entry) qubits.now;
+      gates = (state scan.entry).gates ++ gates_at ((state scan.entry).known name.now) qubits.now;
     }) }
+    ensures kept { IfOk result (λ s. s.definitions.items ≡ scan.entry.definitions.items) }
 {
     let Scan {
         registers,
         names,
+        definitions,
         qubits: n,
         circuit,
         t_count,
         count,
     } = scan;
     let mut circuit = begun(alloc, n, circuit);
-    push_gates(&mut circuit, known, qubits)?;
+    push_gates(
+        &mut circuit,
+        size,
+        gates_by_name(&definitions, name),
+        qubits,
+    )?;
     Ok(Scan {
         registers,
         names,
+        definitions,
         qubits: n,
         circuit: Some(circuit),
-        t_count: t_count + t_count_at(known, qubits),
+        t_count: t_count + t_count_at(size, qubits),
         count,
     })
+}
+
+// The gates of a definition that are kept: all, if it has at most three names.
+fn gates_kept(
+    alloc: Global,
+    list: &[Defined],
+    definition: &Definition,
+) -> Result<Vec<Gate>, AllocError>
+    requires kept { AreKept list.now }
+    requires good { list_any (is_bad_entry (known_behind known list.now) (name_list definition.now.names.items)) (entries definition.now.body.items) ≡ false }
+    ensures { IfOk result (λ v. length definition.now.names.items ≤ most_qubits → v.items ≡ (defined (known_behind known list.now) (name_list definition.now.names.items) (entries definition.now.body.items)).gates) }
+{
+    if definition.names.len() <= usize::from(MOST_QUBITS) {
+        gates_defined(alloc, list, definition)
+    } else {
+        Ok(Vec::new(alloc))
+    }
+}
+
+// One defined gate more.
+fn with_definition<'a>(
+    alloc: Global,
+    scan: Scan<'a>,
+    definition: Definition<'a>,
+    size: Size,
+) -> Result<Scan<'a>, AllocError>
+    requires kept { AreKept scan.definitions.items }
+    requires fits { IsTakeable (state scan) (Some (Define definition.name.now (name_list definition.names.items) (entries definition.body.items))) }
+    requires size { size ≡ counted_size (defined (state scan).known (name_list definition.names.items) (entries definition.body.items)) }
+    ensures value { IfOk result (λ s. state s ≡ declared (state scan.entry) (Some (Define definition.entry.name.now (name_list definition.entry.names.items) (entries definition.entry.body.items)))) }
+    ensures kept { IfOk result (λ s. AreKept s.definitions.items) }
+{
+    let gates = gates_kept(alloc, &scan.definitions, &definition)?;
+    let mut scan = scan;
+    scan.definitions.push(Defined {
+        definition,
+        size,
+        gates,
+    })?;
+    Ok(scan)
 }
 
 // What a form adds.
 fn with_form<'a>(
     alloc: Global,
     scan: Scan<'a>,
-    statement: &Statement<'_, 'a>,
+    statement: Statement<'_, 'a>,
 ) -> Result<Scan<'a>, AllocError>
-    requires fits { IsTakeable (state scan) (option_map form statement.now.form) }
-    requires behind { IsBehind (state scan) statement.now }
-    ensures { IfOk result (λ s. state s ≡ declared (state scan.entry) (option_map form statement.now.form)) }
+    requires kept { AreKept scan.definitions.items }
+    requires fits { IsTakeable (state scan) (option_map form statement.form) }
+    requires behind { IsBehind (state scan) statement }
+    ensures value { IfOk result (λ s. state s ≡ declared (state scan.entry) (option_map form statement.entry.form)) }
+    ensures kept { IfOk result (λ s. AreKept s.definitions.items) }
 {
-    match &statement.form {
-        Some(Form::Qreg(name, size)) => with_qreg(scan, *name, *size),
-        Some(Form::Creg(name, _)) => with_creg(scan, *name),
-        Some(Form::Apply(_, _)) => with_gates(alloc, scan, statement.gate, &statement.qubits),
+    let Statement {
+        lexemes: _,
+        form,
+        size,
+        qubits,
+        has_bad_body: _,
+        body,
+    } = statement;
+    match form {
+        Some(Form::Qreg(name, digits)) => with_qreg(scan, name, digits),
+        Some(Form::Creg(name, _)) => with_creg(scan, name),
+        Some(Form::Apply(name, _)) => with_gates(alloc, scan, name, size, &qubits),
+        Some(Form::Define(definition)) => with_definition(alloc, scan, definition, body),
         _ => Ok(scan),
     }
 }
@@ -140,12 +215,14 @@ fn with_form<'a>(
 pub(crate) fn with_statement<'a>(
     alloc: Global,
     scan: Scan<'a>,
-    statement: &Statement<'_, 'a>,
+    statement: Statement<'_, 'a>,
 ) -> Result<Scan<'a>, AllocError>
-    requires fits { IsTakeable (state scan) (option_map form statement.now.form) }
-    requires behind { IsBehind (state scan) statement.now }
+    requires kept { AreKept scan.definitions.items }
+    requires fits { IsTakeable (state scan) (option_map form statement.form) }
+    requires behind { IsBehind (state scan) statement }
     requires short { scan.count < most_statements }
-    ensures { IfOk result (λ s. state s ≡ after (state scan.entry) (option_map form statement.now.form)) }
+    ensures value { IfOk result (λ s. state s ≡ after (state scan.entry) (option_map form statement.entry.form)) }
+    ensures kept { IfOk result (λ s. AreKept s.definitions.items) }
 {
     let next = with_form(alloc, scan, statement)?;
     Ok(counted(next))

@@ -18,7 +18,7 @@ pub enum ReadFault {
         /// |---|---|
         /// | 1 | it doesn't begin with the header `OPENQASM 2.0;` |
         /// | 2 | a byte is neither skipped nor in a token |
-        /// | 3 | a statement has no `;` or no form, or a gate has another number of arguments than it takes |
+        /// | 3 | a statement hasn't its end or no form, or a gate has another number of arguments than it takes |
         /// | 4 | a gate isn't known |
         /// | 5 | an argument of a barrier or a gate is of no register of qubits |
         /// | 6 | a register's size is 0, or an index isn't below its register's size |
@@ -27,7 +27,9 @@ pub enum ReadFault {
         /// | 9 | there are more than 120 T gates |
         /// | 10 | there are more than 4,096 statements behind the header |
         /// | 11 | a statement is one of OpenQASM 2.0 that this reader leaves out |
-        /// | 12 | a register's name was declared before, or qubits are declared behind a gate |
+        /// | 12 | a register's name was declared before, qubits are declared behind a gate, or a gate's name is known or withheld |
+        /// | 17 | a definition's names hold one twice, or an entry of its body holds another name or misuses a gate |
+        /// | 18 | a defined gate stands for more than 10,000 gates, or there are more than 100,000 |
         number: u8,
         /// The place in the text, counted from 0: of the bad byte for number 2, of the first token or the end for number 1, the
         /// end where there is no qubit, and else of the statement's first token.

@@ -3,10 +3,11 @@ ghost use Rattle.std.specs.Prelude.{◌≡◌, ℕ, List, [], ◌∷◌, ◌++�
 ghost use Rattle.std.specs.List.{slice_split};
 ghost use Rattle.qasm_lex.specs.declared.token.Kind.TheVariants.{Comma as comma};
 ghost use Rattle.qasm_reader.specs.Lexemes.{is_kind};
-ghost use Rattle.qasm_reader.specs.Parse.{body_of, indexed_at, argument_at, arguments_at, all_some, include_at, form_behind, form_in, form_of};
-ghost use Rattle.qasm_reader.specs.View.{lexeme, lexemes, argument, arguments, form};
+ghost use Rattle.qasm_reader.specs.Forms.{Define};
+ghost use Rattle.qasm_reader.specs.Parse.{without_last, body_of, indexed_at, argument_at, arguments_at, all_some, names_of, names_at, entry_at, entries_at, entries_behind, both, definition_at, include_at, form_behind, form_in, form_of};
+ghost use Rattle.qasm_reader.specs.View.{lexeme, lexemes, argument, arguments, name_list, entry, entries, form};
 
-use crate::lexemes::{Lexeme, before, is_digits, is_ident, is_kind, is_name};
+use crate::lexemes::{Lexeme, before, closer, is_digits, is_ident, is_kind, is_name};
 use qasm_lex::Kind;
 use std::alloc::{AllocError, Global};
 
@@ -16,6 +17,21 @@ pub(crate) struct Argument<'a> {
     pub index: Option<&'a [u8]>,
 }
 
+// An entry of a gate's body, on names.
+#[derive(Drop)]
+pub(crate) enum Entry<'a> {
+    Barrier(Vec<&'a [u8]>),
+    Call(&'a [u8], Vec<&'a [u8]>),
+}
+
+// A gate's name, its names, and its body.
+#[derive(Drop)]
+pub(crate) struct Definition<'a> {
+    pub name: &'a [u8],
+    pub names: Vec<&'a [u8]>,
+    pub body: Vec<Entry<'a>>,
+}
+
 #[derive(Drop)]
 pub(crate) enum Form<'a> {
     Include(&'a [u8]),
@@ -23,18 +39,30 @@ pub(crate) enum Form<'a> {
     Creg(&'a [u8], &'a [u8]),
     Barrier(Vec<Argument<'a>>),
     Apply(&'a [u8], Vec<Argument<'a>>),
+    Define(Definition<'a>),
 }
 
-// The statement without its Semi, if it has one.
+// The lexemes without one of the kind at their end, if it is there.
+#[tactic(auto, unfolding(crate::specs::Parse::without_last))]
+fn without_last<'b, 'a>(ws: &'b [Lexeme<'a>], kind: Kind) -> Option<&'b [Lexeme<'a>]>
+    ensures { option_map (λ b. lexemes b.now) result ≡ without_last kind (lexemes ws.now) }
+{
+    let (last, body) = ws.split_last()?;
+    if is_kind(last, kind) {
+        Some(body)
+    } else {
+        None
+    }
+}
+
+// The statement without the token that ends it, if it has it.
 #[tactic(auto, unfolding(crate::specs::Parse::body_of))]
 fn body_of<'b, 'a>(statement: &'b [Lexeme<'a>]) -> Option<&'b [Lexeme<'a>]>
     ensures { option_map (λ b. lexemes b.now) result ≡ body_of (lexemes statement.now) }
 {
-    let (last, body) = statement.split_last()?;
-    if is_kind(last, Kind::Semi) {
-        Some(body)
-    } else {
-        None
+    match statement {
+        [] => None,
+        [first, ..] => without_last(statement, closer(first)),
     }
 }
 
@@ -109,6 +137,111 @@ fn arguments_at<'a>(
     Ok(Some(found))
 }
 
+// The names of arguments, if none has an index.
+fn names_of<'a>(alloc: Global, args: &[Argument<'a>]) -> Result<Option<Vec<&'a [u8]>>, AllocError>
+    ensures { IfOk result (λ o. option_map (λ v. name_list v.items) o ≡ names_of (arguments args.now)) }
+{
+    let mut names = Vec::new(alloc);
+    for argument in args {
+        if argument.index.is_some() {
+            return Ok(None);
+        }
+        names.push(argument.name)?;
+    }
+    Ok(Some(names))
+}
+
+// Names between commas.
+#[tactic(auto, unfolding(crate::specs::Parse::names_at))]
+fn names_at<'a>(alloc: Global, ws: &[Lexeme<'a>]) -> Result<Option<Vec<&'a [u8]>>, AllocError>
+    ensures { IfOk result (λ o. option_map (λ v. name_list v.items) o ≡ names_at (lexemes ws.now)) }
+{
+    match arguments_at(alloc, ws)? {
+        Some(list) => names_of(alloc, &list),
+        None => Ok(None),
+    }
+}
+
+// An entry of a body, without its Semi.
+#[tactic(auto, unfolding(crate::specs::Parse::entry_at))]
+fn entry_at<'a>(alloc: Global, ws: &[Lexeme<'a>]) -> Result<Option<Entry<'a>>, AllocError>
+    ensures { IfOk result (λ o. option_map entry o ≡ entry_at (lexemes ws.now)) }
+{
+    let Some((first, rest)) = ws.split_first() else {
+        return Ok(None);
+    };
+    if is_ident(first, b"barrier".as_slice()) {
+        return Ok(names_at(alloc, rest)?.map(|list| Entry::Barrier(list)));
+    }
+    if is_name(first) {
+        return Ok(names_at(alloc, rest)?.map(|list| Entry::Call(first.bytes, list)));
+    }
+    Ok(None)
+}
+
+// The entries of a body.
+fn entries_at<'a>(alloc: Global, ws: &[Lexeme<'a>]) -> Result<Option<Vec<Entry<'a>>>, AllocError>
+    ensures { IfOk result (λ o. option_map (λ v. entries v.items) o ≡ entries_at (lexemes ws.now)) }
+{
+    let mut found = Vec::new(alloc);
+    let mut at = 0;
+    'parts: while at < ws.len() {
+        let (part, more) = ws[at..].split_at(before(&ws[at..], Kind::Semi));
+        if more.is_empty() {
+            return Ok(None);
+        }
+        let Some(entry) = entry_at(alloc, part)? else {
+            return Ok(None);
+        };
+        found.push(entry)?;
+        at += part.len() + 1;
+    }
+    Ok(Some(found))
+}
+
+// The entries behind a brace, if it is there.
+fn entries_behind<'a>(
+    alloc: Global,
+    ws: &[Lexeme<'a>],
+) -> Result<Option<Vec<Entry<'a>>>, AllocError>
+    ensures { IfOk result (λ o. option_map (λ v. entries v.items) o ≡ entries_behind (lexemes ws.now)) }
+{
+    match ws {
+        [] => Ok(None),
+        [_, rest @ ..] => entries_at(alloc, rest),
+    }
+}
+
+fn defining<'a>(
+    name: &'a [u8],
+    names: Option<Vec<&'a [u8]>>,
+    body: Option<Vec<Entry<'a>>>,
+) -> Option<Form<'a>>
+    ensures { option_map form result ≡ both (Define name.now) (option_map (λ v. name_list v.items) names.entry) (option_map (λ v. entries v.items) body.entry) }
+{
+    match (names, body) {
+        (Some(names), Some(body)) => Some(Form::Define(Definition { name, names, body })),
+        _ => None,
+    }
+}
+
+// The definition behind its word.
+#[tactic(auto, unfolding(crate::specs::Parse::definition_at))]
+fn definition_at<'a>(alloc: Global, ws: &[Lexeme<'a>]) -> Result<Option<Form<'a>>, AllocError>
+    ensures { IfOk result (λ o. option_map form o ≡ definition_at (lexemes ws.now)) }
+{
+    let Some((first, rest)) = ws.split_first() else {
+        return Ok(None);
+    };
+    if !is_name(first) {
+        return Ok(None);
+    }
+    let (names, behind) = rest.split_at(before(rest, Kind::LeftBrace));
+    let names = names_at(alloc, names)?;
+    let body = entries_behind(alloc, behind)?;
+    Ok(defining(first.bytes, names, body))
+}
+
 #[tactic(auto, unfolding(crate::specs::Parse::include_at))]
 fn include_at<'a>(ws: &[Lexeme<'a>]) -> Option<Form<'a>>
     ensures { option_map form result ≡ include_at (lexemes ws.now) }
@@ -125,7 +258,7 @@ fn include_at<'a>(ws: &[Lexeme<'a>]) -> Option<Form<'a>>
     }
 }
 
-// The form of a statement without its Semi.
+// The form of a statement without the token that ends it.
 #[tactic(auto, unfolding(crate::specs::Parse::form_behind))]
 fn form_behind<'a>(
     alloc: Global,
@@ -142,6 +275,9 @@ fn form_behind<'a>(
     }
     if is_ident(first, b"creg".as_slice()) {
         return Ok(indexed_at(ws).map(|(name, size)| Form::Creg(name, size)));
+    }
+    if is_ident(first, b"gate".as_slice()) {
+        return definition_at(alloc, ws);
     }
     if is_ident(first, b"barrier".as_slice()) {
         return Ok(arguments_at(alloc, ws)?.map(|list| Form::Barrier(list)));

@@ -12,6 +12,14 @@ pub(crate) struct Known<'a> {
     pub gates: &'a [Gate],
 }
 
+// How many arguments a gate takes, how many gates it stands for, and how many of them are T gates.
+#[derive(Clone, Copy)]
+pub(crate) struct Size {
+    pub arity: usize,
+    pub length: usize,
+    pub t_count: usize,
+}
+
 const X: [Gate; 4] = [Gate::H(0), Gate::S(0), Gate::S(0), Gate::H(0)];
 
 const Z: [Gate; 2] = [Gate::S(0), Gate::S(0)];

@@ -1,8 +1,8 @@
 // What holds of the definitions.
-ghost use Rattle.std.specs.Prelude.{◌≡◌, ◌⊎◌, ℕ, ◌*◌, ◌<◌, ◌≤◌, List, length};
+ghost use Rattle.std.specs.Prelude.{◌≡◌, ◌⊎◌, ℕ, ◌<◌, ◌≤◌, List, length};
 ghost use Rattle.tc_circuit.specs.Circuit.{Gates};
 ghost use Rattle.tc_circuit.specs.Model.{IsCircuit, t_count_of};
-ghost use Rattle.qasm_reader.specs.Limits.{most_qubits, most_t_gates, most_statements, most_gates_each};
+ghost use Rattle.qasm_reader.specs.Limits.{most_qubits, most_t_gates, most_gates};
 ghost use Rattle.qasm_lex.specs.Tokens.{Bad};
 ghost use Rattle.qasm_reader.specs.Halves.{HasHalves, HasNoHalves};
 ghost use Rattle.qasm_reader.specs.Read.{Reads, Refused};
@@ -19,14 +19,14 @@ pub fn one_reading()
     ensures refusal { (text : List ℕ) (n p m q : ℕ) → Refused text n p → Refused text m q → (n ≡ m) × (p ≡ q) }
 {}
 
-/// A circuit that a text reads as is small: it is on 1 to 3 qubits, each of its gates fits them, it has at most 120 T gates, and
-/// at most 18 gates for each of at most 4,096 statements.
+/// A circuit that a text reads as is small: it is on 1 to 3 qubits, each of its gates fits them, and it has at most 120 T gates and
+/// at most 100,000 gates.
 pub fn read_circuits_are_small()
     ensures some { (text : List ℕ) (c : Gates) → Reads text c → 0 < c.qubits }
     ensures few { (text : List ℕ) (c : Gates) → Reads text c → c.qubits ≤ most_qubits }
     ensures fit { (text : List ℕ) (c : Gates) → Reads text c → IsCircuit c.qubits c.gates }
     ensures low { (text : List ℕ) (c : Gates) → Reads text c → t_count_of c.gates ≤ most_t_gates }
-    ensures short { (text : List ℕ) (c : Gates) → Reads text c → length c.gates ≤ most_gates_each * most_statements }
+    ensures short { (text : List ℕ) (c : Gates) → Reads text c → length c.gates ≤ most_gates }
 {}
 
 /// A text is refused at a place of it, or at its end.

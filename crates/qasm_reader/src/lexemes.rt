@@ -2,7 +2,7 @@
 ghost use Rattle.std.specs.Prelude.{◌≡◌, ℕ, ◌≤◌, List, map, length, codes, IfOk, All, IsTrue, not, ◌&&◌};
 ghost use Rattle.std.specs.Str.{bytes_eq};
 ghost use Rattle.std.specs.List.{position_or_len, prefix_len};
-ghost use Rattle.qasm_reader.specs.Lexemes.{lexeme_of, IsWithin, is_kind, is_ident, is_free, is_whole, is_name, is_digits, is_reserved};
+ghost use Rattle.qasm_reader.specs.Lexemes.{lexeme_of, IsWithin, is_kind, is_ident, is_free, is_whole, is_name, is_digits, is_reserved, closer};
 ghost use Rattle.qasm_reader.specs.View.{lexeme, lexemes};
 
 use qasm_lex::{Kind, Token};
@@ -98,6 +98,17 @@ pub(crate) fn is_digits(w: &Lexeme) -> bool
     ensures { result ≡ is_digits (lexeme w.now) }
 {
     is_kind(w, Kind::Number) && is_whole(w.bytes)
+}
+
+// The kind of the token that ends a statement with this first token.
+pub(crate) fn closer(first: &Lexeme) -> Kind
+    ensures { result ≡ closer (lexeme first.now) }
+{
+    if is_ident(first, b"gate".as_slice()) {
+        Kind::RightBrace
+    } else {
+        Kind::Semi
+    }
 }
 
 // How many lexemes at the front are of other kinds.

@@ -1,16 +1,15 @@
 // A text, statement by statement.
 ghost use Rattle.std.specs.Prelude.{◌≡◌, ◌<◌, ◌≤◌, IfOk, IfErr, IfSome, IfNone, All, not, length, map, option_map};
 ghost use Rattle.std.specs.List.{prefix_len};
-ghost use Rattle.qasm_lex.specs.declared.token.Kind.TheVariants.{Semi};
 ghost use Rattle.qasm_reader.specs.Lexemes.{lexeme_of, IsWithin, is_same_kind};
-ghost use Rattle.qasm_reader.specs.Parse.{first_len, headed_at};
+ghost use Rattle.qasm_reader.specs.Parse.{len_up_to, first_len, headed_at};
 ghost use Rattle.qasm_reader.specs.Read.{place_of, Reads, IsFault};
 ghost use Rattle.qasm_reader.specs.Run.{Takes, IsRowFault, Scans, IsScanFault};
-ghost use Rattle.qasm_reader.specs.View.{lexemes, state};
+ghost use Rattle.qasm_reader.specs.View.{lexemes, AreKept, state};
 
 use crate::declare::{new_scan, with_statement};
 use crate::fault::{ReadFault, refused};
-use crate::lexemes::{Lexeme, is_ident, is_number, lexeme_of, lexemes_of};
+use crate::lexemes::{Lexeme, closer, is_ident, is_number, lexeme_of, lexemes_of};
 use crate::refusal::Refusal;
 use crate::rows::first_row;
 use crate::scan::Scan;
@@ -21,7 +20,8 @@ use tc_circuit::Circuit;
 
 // The scan behind a statement to which no row applies.
 fn taken<'a>(alloc: Global, scan: Scan<'a>, ws: &[Lexeme<'a>]) -> Result<Scan<'a>, ReadFault>
-    requires { 0 < length ws.now }
+    requires some { 0 < length ws.now }
+    requires kept { AreKept scan.definitions.items }
     ensures ok { IfOk result (Takes (state scan.entry) (lexemes ws.now)) }
     ensures err { IfErr result (IsRowFault (state scan.entry) (lexemes ws.now)) }
 {
@@ -29,26 +29,39 @@ fn taken<'a>(alloc: Global, scan: Scan<'a>, ws: &[Lexeme<'a>]) -> Result<Scan<'a
     if let Some(why) = first_row(&scan, &statement) {
         return Err(refused(why, ws[0].place));
     }
-    let next = with_statement(alloc, scan, &statement)?;
+    let next = with_statement(alloc, scan, statement)?;
     Ok(next)
 }
 
-// How many tokens stand before the first `;`.
-fn body_len(tokens: &[Token]) -> usize
-    ensures value { result ≡ prefix_len (λ t. not (is_same_kind Semi t.kind)) tokens.now }
+// How many tokens stand before the first of the kind.
+fn len_before(tokens: &[Token], kind: Kind) -> usize
+    ensures value { result ≡ prefix_len (λ t. not (is_same_kind kind t.kind)) tokens.now }
     ensures within { result ≤ length tokens.now }
 {
-    tokens.iter().take_while(|t| t.kind != Kind::Semi).count()
+    tokens.iter().take_while(|t| t.kind != kind).count()
 }
 
-// How many tokens the first statement has.
-fn first_len(tokens: &[Token]) -> usize
-    ensures value { result ≡ first_len tokens.now }
+// How many tokens there are up to the first of the kind, with it, or all of them.
+fn len_up_to(tokens: &[Token], kind: Kind) -> usize
+    ensures value { result ≡ len_up_to kind tokens.now }
     ensures within { result ≤ length tokens.now }
     ensures some { 0 < length tokens.now → 0 < result }
 {
-    let n = body_len(tokens);
+    let n = len_before(tokens, kind);
     if n < tokens.len() { n + 1 } else { n }
+}
+
+// How many tokens the first statement has.
+fn first_len(text: &[u8], tokens: &[Token]) -> usize
+    requires { All (IsWithin text.now) tokens.now }
+    ensures value { result ≡ first_len text.now tokens.now }
+    ensures within { result ≤ length tokens.now }
+    ensures some { 0 < length tokens.now → 0 < result }
+{
+    match tokens {
+        [] => 0,
+        [first, ..] => len_up_to(tokens, closer(&lexeme_of(text, first))),
+    }
 }
 
 // The scan behind all statements.
@@ -60,7 +73,7 @@ fn scan_all<'a>(alloc: Global, text: &'a [u8], tokens: &[Token]) -> Result<Scan<
     let mut scan = new_scan(alloc);
     let mut at = 0;
     'statements: while at < tokens.len() {
-        let size = first_len(&tokens[at..]);
+        let size = first_len(text, &tokens[at..]);
         let statement = lexemes_of(alloc, text, &tokens[at..at + size])?;
         scan = taken(alloc, scan, &statement)?;
         at += size;
@@ -109,6 +122,7 @@ fn circuit_of(alloc: Global, scan: Scan) -> Option<Circuit>
     let Scan {
         registers: _,
         names: _,
+        definitions: _,
         qubits,
         circuit,
         t_count: _,
@@ -127,8 +141,8 @@ fn circuit_of(alloc: Global, scan: Scan) -> Option<Circuit>
 ///
 /// [`ReadFault::Refused`] with the number of the first reason for which the text is refused and its place, exactly where there is
 /// one ([`one_reading`](crate::one_reading)). A bad byte comes before a missing header, this before a statement, an earlier
-/// statement before a later one, and at one statement the reasons come in the order 3, 11, 12, 4, 5, 6, 7, 8, 9, 10; last comes
-/// 8 for a text without qubits.
+/// statement before a later one, and at one statement the reasons come in the order 3, 11, 12, 17, 4, 5, 6, 7, 8, 9, 18, 10;
+/// last comes 8 for a text without qubits.
 pub fn read(alloc: Global, text: &[u8]) -> Result<Circuit, ReadFault>
     ensures ok { IfOk result (Reads text.now) }
     ensures err { IfErr result (IsFault text.now) }

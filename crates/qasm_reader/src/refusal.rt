@@ -7,7 +7,7 @@ pub(crate) enum Refusal {
     Header = 1,
     // A byte is neither skipped nor in a token.
     BadByte = 2,
-    // The statement has no `;` or no form, or a gate has another number of arguments than it takes.
+    // The statement hasn't its end or no form, or a gate has another number of arguments than it takes.
     Statement = 3,
     // The gate isn't known.
     UnknownGate = 4,
@@ -25,15 +25,19 @@ pub(crate) enum Refusal {
     TooLong = 10,
     // A statement of OpenQASM 2.0 that this reader leaves out.
     NotInProfile = 11,
-    // A register's name was declared before, or qubits are declared behind a gate.
+    // A register's name was declared before, qubits are declared behind a gate, or a gate's name is known or withheld.
     TwoNames = 12,
+    // A definition's names hold one twice, or an entry of its body holds another name or misuses a gate.
+    Body = 17,
+    // A defined gate stands for more than 10,000 gates, or there are more than 100,000.
+    TooManyGates = 18,
 }
 
 impl Refusal {
     ghost use Rattle.std.specs.Prelude.{◌≡◌};
     ghost use Rattle.qasm_reader.specs.Refusals.{number_of};
 
-    // The number of the reason, 1 to 12.
+    // The number of the reason, 1 to 12, 17 or 18.
     pub(crate) fn number(self) -> u8
         ensures { result ≡ number_of self }
     {

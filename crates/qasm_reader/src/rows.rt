@@ -1,28 +1,31 @@
 // The rows by which a statement is refused.
-ghost use Rattle.std.specs.Prelude.{◌≡◌, Option, option_map, is_none};
+ghost use Rattle.tc_circuit.specs.Model.{t_count_of};
+ghost use Rattle.std.specs.Prelude.{◌≡◌, ◌+◌, min, Option, option_map, is_none, is_some, length};
+ghost use Rattle.std.specs.Str.{bytes_eq};
 ghost use Rattle.std.specs.List.{list_any};
-ghost use Rattle.qasm_reader.specs.State.{find_register};
-ghost use Rattle.qasm_reader.specs.Rows.{ends, is_foreign, is_call, takes_other, has_other_arity, is_no_statement, takes_bare, has_bare, includes_other, is_not_in_profile, is_taken, is_unknown, arguments_of, has_no_register, is_outside, is_empty_size, has_bad_index, has_too_many_qubits, has_too_many_t, applies, row_of};
-ghost use Rattle.qasm_reader.specs.View.{lexemes, form, argument, arguments, register, registers, known_gate, statement_of, IsBehind, state};
+ghost use Rattle.qasm_reader.specs.State.{find_register, gates_in};
+ghost use Rattle.qasm_reader.specs.Rows.{ends, is_foreign, is_call, is_beyond_bodies, is_definition, is_wide_definition, is_outside_profile, takes_other, has_other_arity, is_no_statement, takes_bare, has_bare, includes_other, is_not_in_profile, withheld, is_taken, is_unknown, arguments_of, has_no_register, is_outside, is_empty_size, has_bad_index, has_too_many_qubits, has_too_many_t, has_too_many_gates, applies, row_of};
+ghost use Rattle.qasm_reader.specs.View.{lexeme, lexemes, form, argument, arguments, register, registers, statement_of, IsBehind, AreKept, state};
 
-use crate::circuits::t_count_at;
+use crate::circuits::{length_at, t_count_at};
+use crate::definitions::size_by_name;
 use crate::expand::has_twins;
 use crate::finding::{contains_name, find_register, small_value};
 use crate::forms::{Argument, Form};
-use crate::gates::Known;
-use crate::lexemes::{Lexeme, is_ident, is_kind, is_name};
-use crate::limits::{MOST_QUBITS, MOST_STATEMENTS, MOST_T_GATES};
+use crate::gates::Size;
+use crate::lexemes::{Lexeme, closer, is_ident, is_kind, is_name};
+use crate::limits::{MOST_GATES, MOST_GATES_DEFINED, MOST_QUBITS, MOST_STATEMENTS, MOST_T_GATES};
 use crate::refusal::Refusal;
 use crate::scan::{Register, Scan};
 use crate::statements::Statement;
 use qasm_lex::Kind;
 
-// Whether the last token is `;`.
+// Whether the last token is the one that ends a statement with this first token.
 fn ends(statement: &[Lexeme]) -> bool
     ensures { result ≡ ends (lexemes statement.now) }
 {
     match statement.split_last() {
-        Some((last, _)) => is_kind(last, Kind::Semi),
+        Some((last, _)) => is_kind(last, closer(&statement[0])),
         None => false,
     }
 }
@@ -38,7 +41,6 @@ fn is_foreign(statement: &[Lexeme]) -> bool
                 || is_ident(first, b"reset".as_slice())
                 || is_ident(first, b"if".as_slice())
                 || is_ident(first, b"opaque".as_slice())
-                || is_ident(first, b"gate".as_slice())
                 || is_ident(first, b"U".as_slice())
                 || is_ident(first, b"CX".as_slice())
         }
@@ -55,20 +57,62 @@ fn is_call(statement: &[Lexeme]) -> bool
     }
 }
 
-fn takes_other(known: Option<Known>, n: usize) -> bool
-    ensures { result ≡ takes_other (option_map known_gate known.entry) n }
+// Whether the token is a parenthesis, or a word of the standard's own gates.
+fn is_beyond_bodies(w: &Lexeme) -> bool
+    ensures { result ≡ is_beyond_bodies (lexeme w.now) }
 {
-    match known {
-        Some(gate) => gate.arity != n,
+    is_kind(w, Kind::LeftParen) || is_ident(w, b"U".as_slice()) || is_ident(w, b"CX".as_slice())
+}
+
+fn any_beyond_bodies(ws: &[Lexeme]) -> bool
+    ensures { result ≡ list_any (λ w. is_beyond_bodies (lexeme w)) ws.now }
+{
+    ws.iter().any(|w| is_beyond_bodies(w))
+}
+
+fn has_beyond_bodies(ws: &[Lexeme]) -> bool
+    ensures { result ≡ list_any is_beyond_bodies (lexemes ws.now) }
+{
+    any_beyond_bodies(ws)
+}
+
+fn is_definition(statement: &[Lexeme]) -> bool
+    ensures { result ≡ is_definition (lexemes statement.now) }
+{
+    match statement {
+        [] => false,
+        [first, ..] => is_ident(first, b"gate".as_slice()),
+    }
+}
+
+// Whether it is a definition of a gate that has parameters, or stands on the standard's own gates.
+fn is_wide_definition(statement: &[Lexeme]) -> bool
+    ensures { result ≡ is_wide_definition (lexemes statement.now) }
+{
+    is_definition(statement) && has_beyond_bodies(statement)
+}
+
+// Whether it is a statement of OpenQASM 2.0 outside the profile, by its tokens.
+fn is_outside_profile(statement: &[Lexeme]) -> bool
+    ensures { result ≡ is_outside_profile (lexemes statement.now) }
+{
+    is_foreign(statement) || is_call(statement) || is_wide_definition(statement)
+}
+
+fn takes_other(size: Option<Size>, n: usize) -> bool
+    ensures { result ≡ takes_other (option_map (λ z. z.arity) size) n }
+{
+    match size {
+        Some(size) => size.arity != n,
         None => false,
     }
 }
 
-fn has_other_arity(gate: Option<Known>, found: &Option<Form>) -> bool
-    ensures { result ≡ has_other_arity (option_map known_gate gate.entry) (option_map form found.now) }
+fn has_other_arity(size: Option<Size>, found: &Option<Form>) -> bool
+    ensures { result ≡ has_other_arity (option_map (λ z. z.arity) size) (option_map form found.now) }
 {
     match found {
-        Some(Form::Apply(_, list)) => takes_other(gate, list.len()),
+        Some(Form::Apply(_, list)) => takes_other(size, list.len()),
         _ => false,
     }
 }
@@ -94,20 +138,20 @@ fn has_no_index(list: &[Argument]) -> bool
     any_bare(list)
 }
 
-fn takes_bare(known: Option<Known>, list: &[Argument]) -> bool
-    ensures { result ≡ takes_bare (option_map known_gate known.entry) (arguments list.now) }
+fn takes_bare(size: Option<Size>, list: &[Argument]) -> bool
+    ensures { result ≡ takes_bare (option_map (λ z. z.arity) size) (arguments list.now) }
 {
-    match known {
-        Some(gate) => gate.arity > 1 && gate.arity == list.len() && has_no_index(list),
+    match size {
+        Some(size) => size.arity > 1 && size.arity == list.len() && has_no_index(list),
         None => false,
     }
 }
 
-fn has_bare(gate: Option<Known>, found: &Option<Form>) -> bool
-    ensures { result ≡ has_bare (option_map known_gate gate.entry) (option_map form found.now) }
+fn has_bare(size: Option<Size>, found: &Option<Form>) -> bool
+    ensures { result ≡ has_bare (option_map (λ z. z.arity) size) (option_map form found.now) }
 {
     match found {
-        Some(Form::Apply(_, list)) => takes_bare(gate, list),
+        Some(Form::Apply(_, list)) => takes_bare(size, list),
         _ => false,
     }
 }
@@ -196,21 +240,42 @@ fn has_bad_index(scan: &Scan, found: &Option<Form>) -> bool
     is_empty_size(found) || has_outside(scan, found)
 }
 
+// Whether no text may define a gate of the name, though it isn't known.
+fn is_withheld(name: &[u8]) -> bool
+    ensures { result ≡ list_any (bytes_eq name.now) withheld }
+{
+    name == b"ch".as_slice()
+        || name == b"cy".as_slice()
+        || name == b"cswap".as_slice()
+        || name == b"u1".as_slice()
+        || name == b"rz".as_slice()
+}
+
+fn is_known(scan: &Scan, name: &[u8]) -> bool
+    requires { AreKept scan.now.definitions.items }
+    ensures { result ≡ is_some ((state scan.now).known name.now) }
+{
+    size_by_name(&scan.definitions, name).is_some()
+}
+
 fn is_taken<'a>(scan: &Scan<'a>, found: &Option<Form<'a>>) -> bool
+    requires { AreKept scan.now.definitions.items }
     ensures { result ≡ is_taken (state scan.now) (option_map form found.now) }
 {
     match found {
         Some(Form::Qreg(name, _)) => contains_name(&scan.names, name) || scan.circuit.is_some(),
         Some(Form::Creg(name, _)) => contains_name(&scan.names, name),
+        Some(Form::Define(definition)) => is_known(scan, definition.name)
+            || is_withheld(definition.name),
         _ => false,
     }
 }
 
-fn is_unknown(gate: Option<Known>, found: &Option<Form>) -> bool
-    ensures { result ≡ is_unknown (option_map known_gate gate.entry) (option_map form found.now) }
+fn is_unknown(size: Option<Size>, found: &Option<Form>) -> bool
+    ensures { result ≡ is_unknown (option_map (λ z. z.arity) size) (option_map form found.now) }
 {
     match found {
-        Some(Form::Apply(_, _)) => gate.is_none(),
+        Some(Form::Apply(_, _)) => size.is_none(),
         _ => false,
     }
 }
@@ -224,54 +289,92 @@ fn has_too_many_qubits(scan: &Scan, found: &Option<Form>) -> bool
     }
 }
 
+// How many T gates there are with those of the statement, or the greatest number where there are more.
+fn t_count_with(scan: &Scan, statement: &Statement) -> usize
+    requires { IsBehind (state scan.now) statement.now }
+    ensures { result ≡ min (t_count_of (state scan.now).gates + t_count_of (gates_in (state scan.now) (option_map form statement.now.form))) usize.MAX }
+{
+    scan.t_count
+        .saturating_add(t_count_at(statement.size, &statement.qubits))
+}
+
 fn has_too_many_t(scan: &Scan, statement: &Statement) -> bool
     requires { IsBehind (state scan.now) statement.now }
     ensures { result ≡ has_too_many_t (state scan.now) (option_map form statement.now.form) }
 {
     match &statement.form {
-        Some(Form::Apply(_, _)) => {
-            t_count_at(statement.gate, &statement.qubits) > MOST_T_GATES - scan.t_count
-        }
+        Some(Form::Apply(_, _)) => t_count_with(scan, statement) > MOST_T_GATES,
+        _ => false,
+    }
+}
+
+// How many gates there are so far.
+fn length_of(scan: &Scan) -> usize
+    ensures { result ≡ length (state scan.now).gates }
+{
+    match &scan.circuit {
+        Some(circuit) => circuit.gates().len(),
+        None => 0,
+    }
+}
+
+// How many gates there are with those of the statement, or the greatest number where there are more.
+fn length_with(scan: &Scan, statement: &Statement) -> usize
+    requires { IsBehind (state scan.now) statement.now }
+    ensures { result ≡ min (length (state scan.now).gates + length (gates_in (state scan.now) (option_map form statement.now.form))) usize.MAX }
+{
+    length_of(scan).saturating_add(length_at(statement.size, &statement.qubits))
+}
+
+fn has_too_many_gates(scan: &Scan, statement: &Statement) -> bool
+    requires { IsBehind (state scan.now) statement.now }
+    ensures { result ≡ has_too_many_gates (state scan.now) (option_map form statement.now.form) }
+{
+    match &statement.form {
+        Some(Form::Define(_)) => statement.body.length > MOST_GATES_DEFINED,
+        Some(Form::Apply(_, _)) => length_with(scan, statement) > MOST_GATES,
         _ => false,
     }
 }
 
 #[tactic(auto, unfolding(crate::specs::Rows::is_no_statement))]
 fn is_no_statement(statement: &Statement) -> bool
-    ensures { result ≡ is_no_statement (option_map known_gate statement.now.gate) (statement_of statement.now) }
+    ensures { result ≡ is_no_statement (option_map (λ z. z.arity) statement.now.size) (statement_of statement.now) }
 {
     !ends(statement.lexemes)
-        || statement.form.is_none()
-            && !(is_foreign(statement.lexemes) || is_call(statement.lexemes))
-        || has_other_arity(statement.gate, &statement.form)
+        || statement.form.is_none() && !is_outside_profile(statement.lexemes)
+        || has_other_arity(statement.size, &statement.form)
 }
 
 #[tactic(auto, unfolding(crate::specs::Rows::is_not_in_profile))]
 fn is_not_in_profile(statement: &Statement) -> bool
-    ensures { result ≡ is_not_in_profile (option_map known_gate statement.now.gate) (statement_of statement.now) }
+    ensures { result ≡ is_not_in_profile (option_map (λ z. z.arity) statement.now.size) (statement_of statement.now) }
 {
-    ends(statement.lexemes) && (is_foreign(statement.lexemes) || is_call(statement.lexemes))
+    ends(statement.lexemes) && is_outside_profile(statement.lexemes)
         || includes_other(&statement.form)
-        || has_bare(statement.gate, &statement.form)
+        || has_bare(statement.size, &statement.form)
 }
 
 // The reasons in the order of their rows.
-const ORDER: [Refusal; 10] = [
+const ORDER: [Refusal; 12] = [
     Refusal::Statement,
     Refusal::NotInProfile,
     Refusal::TwoNames,
+    Refusal::Body,
     Refusal::UnknownGate,
     Refusal::UnknownRegister,
     Refusal::Index,
     Refusal::SameQubit,
     Refusal::Qubits,
     Refusal::TooManyT,
+    Refusal::TooManyGates,
     Refusal::TooLong,
 ];
 
 // Whether the row of a reason applies.
 fn applies<'a>(scan: &Scan<'a>, statement: &Statement<'_, 'a>, why: Refusal) -> bool
-    requires { IsBehind (state scan.now) statement.now }
+    requires kept { AreKept scan.now.definitions.items }
+    requires behind { IsBehind (state scan.now) statement.now }
     ensures { result ≡ applies (state scan.now) (statement_of statement.now) why }
 {
     match why {
@@ -279,12 +382,14 @@ fn applies<'a>(scan: &Scan<'a>, statement: &Statement<'_, 'a>, why: Refusal) -> 
         Refusal::Statement => is_no_statement(statement),
         Refusal::NotInProfile => is_not_in_profile(statement),
         Refusal::TwoNames => is_taken(scan, &statement.form),
-        Refusal::UnknownGate => is_unknown(statement.gate, &statement.form),
+        Refusal::Body => statement.has_bad_body,
+        Refusal::UnknownGate => is_unknown(statement.size, &statement.form),
         Refusal::UnknownRegister => has_no_register(scan, &statement.form),
         Refusal::Index => has_bad_index(scan, &statement.form),
         Refusal::SameQubit => has_twins(&statement.qubits),
         Refusal::Qubits => has_too_many_qubits(scan, &statement.form),
         Refusal::TooManyT => has_too_many_t(scan, statement),
+        Refusal::TooManyGates => has_too_many_gates(scan, statement),
         Refusal::TooLong => scan.count >= MOST_STATEMENTS,
     }
 }
@@ -292,7 +397,8 @@ fn applies<'a>(scan: &Scan<'a>, statement: &Statement<'_, 'a>, why: Refusal) -> 
 // The first row that applies, if one does.
 #[tactic(auto, unfolding(crate::specs::Rows::row_of))]
 pub(crate) fn first_row<'a>(scan: &Scan<'a>, statement: &Statement<'_, 'a>) -> Option<Refusal>
-    requires { IsBehind (state scan.now) statement.now }
+    requires kept { AreKept scan.now.definitions.items }
+    requires behind { IsBehind (state scan.now) statement.now }
     ensures { result ≡ row_of (state scan.now) (statement_of statement.now) }
 {
     for why in ORDER {

@@ -5,8 +5,10 @@ ghost use Rattle.std.specs.Option.{ForSome, ForNone};
 ghost use Rattle.tc_circuit.specs.Model.{t_count_of};
 ghost use Rattle.qasm_reader.specs.Limits.{most_qubits, most_t_gates, most_statements};
 
+use crate::forms::Definition;
+use crate::gates::Size;
 use std::collections::BTreeSet;
-use tc_circuit::Circuit;
+use tc_circuit::{Circuit, Gate};
 
 // A register of qubits: its first qubit, and how many it has.
 #[derive(Clone, Copy)]
@@ -17,11 +19,21 @@ pub(crate) struct Register<'a> {
     ghost small: { first + size ≤ most_qubits },
 }
 
+// A definition with the size of its gate, and the gates that this stands for on the places of its names. These are kept where the
+// gate can be applied to qubits, which takes at most three names.
+#[derive(Drop)]
+pub(crate) struct Defined<'a> {
+    pub definition: Definition<'a>,
+    pub size: Size,
+    pub gates: Vec<Gate>,
+}
+
 // There is a circuit once a gate was applied; its gates are those of the statements so far, and `t_count` counts their T gates.
 #[derive(Drop)]
 pub(crate) struct Scan<'a> {
     pub registers: Vec<Register<'a>>,
     pub names: BTreeSet<&'a [u8]>,
+    pub definitions: Vec<Defined<'a>>,
     pub qubits: u8,
     pub circuit: Option<Circuit>,
     pub t_count: usize,

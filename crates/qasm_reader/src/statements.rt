@@ -1,34 +1,62 @@
 // A statement with what its names stand for.
-ghost use Rattle.std.specs.Prelude.{◌≡◌, IfOk, Option, option_map};
-ghost use Rattle.qasm_reader.specs.Known.{known};
+ghost use Rattle.std.specs.Prelude.{◌≡◌, ◌+◌, IfOk, Option, option_map};
 ghost use Rattle.qasm_reader.specs.State.{gate_in};
+ghost use Rattle.qasm_reader.specs.Rows.{has_bad_body as has_bad_body_in};
 ghost use Rattle.qasm_reader.specs.Parse.{form_of};
-ghost use Rattle.qasm_reader.specs.View.{lexemes, form, known_gate, IsBehind, state};
+ghost use Rattle.qasm_reader.specs.View.{lexemes, form, size_of, gate_defined, counted_size, IsBehind, AreKept, state};
 
+use crate::bodies::{NOTHING, body_size, has_bad_body};
+use crate::definitions::size_by_name;
 use crate::expand::gate_qubits;
 use crate::forms::{Form, form_of};
-use crate::gates::{Known, known_by_name};
+use crate::gates::Size;
 use crate::lexemes::Lexeme;
 use crate::scan::Scan;
 use std::alloc::{AllocError, Global};
 
-// A statement: its tokens, the form that it has, if it has one, the gate that the form applies, if it is known, and the qubits
-// that the gate's arguments name, one after another.
+// A statement: its tokens, the form that it has, if it has one, the size of the gate that the form applies, if it is known, the
+// qubits that the gate's arguments name, one after another, and of the gate that the form defines, whether its body is bad, and
+// its size, where gates are counted up to one more than the most.
 #[derive(Drop)]
 pub(crate) struct Statement<'b, 'a> {
     pub lexemes: &'b [Lexeme<'a>],
     pub form: Option<Form<'a>>,
-    pub gate: Option<Known<'static>>,
+    pub size: Option<Size>,
     pub qubits: Vec<u8>,
+    pub has_bad_body: bool,
+    pub body: Size,
 }
 
-// The gate that a form applies, if it is known.
-fn gate_in(found: &Option<Form>) -> Option<Known<'static>>
-    ensures { option_map known_gate result ≡ gate_in known (option_map form found.now) }
+// The size of the gate that a form applies, if it is known.
+fn size_in(scan: &Scan, found: &Option<Form>) -> Option<Size>
+    requires { AreKept scan.now.definitions.items }
+    ensures { result ≡ option_map size_of (gate_in (state scan.now).known (option_map form found.now)) }
 {
     match found {
-        Some(Form::Apply(name, _)) => known_by_name(name),
+        Some(Form::Apply(name, _)) => size_by_name(&scan.definitions, name),
         _ => None,
+    }
+}
+
+// Whether a form defines a gate with a bad body.
+fn bad_body_in(alloc: Global, scan: &Scan, found: &Option<Form>) -> Result<bool, AllocError>
+    requires { AreKept scan.now.definitions.items }
+    ensures { IfOk result (λ bad. bad ≡ has_bad_body_in (state scan.now) (option_map form found.now)) }
+{
+    match found {
+        Some(Form::Define(definition)) => has_bad_body(alloc, &scan.definitions, definition),
+        _ => Ok(false),
+    }
+}
+
+// The size of the gate that a form defines.
+fn body_in(scan: &Scan, found: &Option<Form>) -> Size
+    requires { AreKept scan.now.definitions.items }
+    ensures { result ≡ counted_size (gate_defined (state scan.now) (option_map form found.now)) }
+{
+    match found {
+        Some(Form::Define(definition)) => body_size(&scan.definitions, definition),
+        _ => NOTHING,
     }
 }
 
@@ -38,16 +66,20 @@ pub(crate) fn statement_behind<'b, 'a>(
     scan: &Scan<'a>,
     ws: &'b [Lexeme<'a>],
 ) -> Result<Statement<'b, 'a>, AllocError>
+    requires { AreKept scan.now.definitions.items }
     ensures lexemes { IfOk result (λ p. p.lexemes.now ≡ ws.now) }
     ensures form { IfOk result (λ p. option_map form p.form ≡ form_of (lexemes ws.now)) }
     ensures behind { IfOk result (IsBehind (state scan.now)) }
 {
     let form = form_of(alloc, ws)?;
     let qubits = gate_qubits(alloc, scan, &form)?;
+    let has_bad_body = bad_body_in(alloc, scan, &form)?;
     Ok(Statement {
         lexemes: ws,
-        gate: gate_in(&form),
+        size: size_in(scan, &form),
+        body: body_in(scan, &form),
         form,
         qubits,
+        has_bad_body,
     })
 }

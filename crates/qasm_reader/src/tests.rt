@@ -42,7 +42,7 @@ fn refusal(alloc: Global, text: &[u8]) -> Option<(u8, usize)> {
 }
 
 // How many qubits the head declares, the lines behind it, how many qubits the circuit has, and its gates.
-const CIRCUITS: [(usize, &[u8], u8, &[Gate]); 49] = [
+const CIRCUITS: [(usize, &[u8], u8, &[Gate]); 64] = [
     // Each gate.
     (1, b"h q[0];", 1, &[H(0)]),
     (2, b"s q[1];", 2, &[S(1)]),
@@ -200,6 +200,107 @@ const CIRCUITS: [(usize, &[u8], u8, &[Gate]); 49] = [
     (2, b"sdg q;", 2, &[Sdg(0), Sdg(1)]),
     (2, b"tdg q;", 2, &[Tdg(0), Tdg(1)]),
     (2, b"s q; t q;", 2, &[S(0), S(1), T(0), T(1)]),
+    // Definitions of gates.
+    (1, b"gate g a { h a; }", 1, &[]),
+    (1, b"gate g a { } g q;", 1, &[]),
+    (1, b"gate g a{h a;t a;}g q[0];", 1, &[H(0), T(0)]),
+    (
+        3,
+        b"gate g a { h a; t a; } g q;",
+        3,
+        &[H(0), T(0), H(1), T(1), H(2), T(2)],
+    ),
+    (2, b"gate r a,b { cx b,a; } r q[0],q[1];", 2, &[Cx(1, 0)]),
+    (
+        3,
+        b"gate r a,b,c { cx c,a; t b; } r q[1],q[2],q[0];",
+        3,
+        &[Cx(0, 1), T(2)],
+    ),
+    (
+        2,
+        b"gate g a,b { barrier b,a,b; s b; barrier a; } g q[0],q[1];",
+        2,
+        &[S(1)],
+    ),
+    (
+        1,
+        b"gate g a { t a; } gate k b { g b; h b; g b; } k q;",
+        1,
+        &[T(0), H(0), T(0)],
+    ),
+    (
+        2,
+        b"gate r a,b { cx b,a; } gate k b,a { r a,b; } k q[0],q[1];",
+        2,
+        &[Cx(0, 1)],
+    ),
+    (1, b"gate q q { h q; } q q[0];", 1, &[H(0)]),
+    (
+        1,
+        b"gate g a { x a; } gate w a,b,c,d { cx a,d; g c; }",
+        1,
+        &[],
+    ),
+    (
+        0,
+        b"OPENQASM 2.0; gate g a { s a; } qreg q[1]; gate k a { g a; } qreg r[1]; k r[0];",
+        2,
+        &[S(1)],
+    ),
+    (
+        2,
+        b"gate cs a,b { t a; t b; cx a,b; tdg b; cx a,b; } cs q[0],q[1];",
+        2,
+        &[T(0), T(1), Cx(0, 1), Tdg(1), Cx(0, 1)],
+    ),
+    // Toffoli's circuit, by a definition of its own, and a controlled controlled z by ccx.
+    (
+        3,
+        b"gate toffoli a,b,c { h c; cx b,c; tdg c; cx a,c; t c; cx b,c; tdg c; cx a,c; t b; t c; h c; cx a,b; t a; tdg b; cx a,b; } toffoli q[0],q[1],q[2];",
+        3,
+        &[
+            H(2),
+            Cx(1, 2),
+            Tdg(2),
+            Cx(0, 2),
+            T(2),
+            Cx(1, 2),
+            Tdg(2),
+            Cx(0, 2),
+            T(1),
+            T(2),
+            H(2),
+            Cx(0, 1),
+            T(0),
+            Tdg(1),
+            Cx(0, 1),
+        ],
+    ),
+    (
+        3,
+        b"gate ccz a,b,c { h c; ccx a,b,c; h c; } ccz q[2],q[0],q[1];",
+        3,
+        &[
+            H(1),
+            H(1),
+            Cx(0, 1),
+            Tdg(1),
+            Cx(2, 1),
+            T(1),
+            Cx(0, 1),
+            Tdg(1),
+            Cx(2, 1),
+            T(0),
+            T(1),
+            H(1),
+            Cx(2, 0),
+            T(2),
+            Tdg(0),
+            Cx(2, 0),
+            H(1),
+        ],
+    ),
 ];
 
 #[test]
@@ -213,7 +314,7 @@ fn circuits_are_read(rt: HostRuntime) {
 }
 
 // How many qubits the head declares, the lines behind it, the number of the refusal, and its place.
-const REFUSALS: [(usize, &[u8], u8, usize); 92] = [
+const REFUSALS: [(usize, &[u8], u8, usize); 153] = [
     // No header.
     (0, b"", 1, 0),
     (0, b" // nothing", 1, 11),
@@ -274,7 +375,6 @@ const REFUSALS: [(usize, &[u8], u8, usize); 92] = [
     (1, b"reset q;", 11, 25),
     (1, b"if (c == 1) x q[0];", 11, 25),
     (1, b"opaque g a;", 11, 25),
-    (1, b"gate g a { h a; }", 11, 25),
     (1, b"U(0,0,0) q[0];", 11, 25),
     (1, b"CX q[0],q[0];", 11, 25),
     (1, b"u1(pi/4) q[0];", 11, 25),
@@ -319,6 +419,73 @@ const REFUSALS: [(usize, &[u8], u8, usize); 92] = [
     (0, b"OPENQASM 2.0;\nqreg q[99999999999999999999];", 8, 14),
     (2, b"creg c[1]; qreg r[2];", 8, 36),
     (0, b"OPENQASM 2.0;\n", 8, 14),
+    // Definitions without their end or of no form.
+    (1, b"gate", 3, 25),
+    (1, b"gate g a { h a;", 3, 25),
+    (1, b"gate g a { h a; h q[0];", 3, 25),
+    (1, b"gate g(x) a { h a;", 3, 25),
+    (1, b"gate g { h a; }", 3, 25),
+    (1, b"gate a { }", 3, 25),
+    (1, b"gate g a { h a }", 3, 25),
+    (1, b"gate g a { h a; t a }", 3, 25),
+    (1, b"gate g a { ; }", 3, 25),
+    (1, b"gate g a { h a[0]; }", 3, 25),
+    (1, b"gate g a { h; }", 3, 25),
+    (1, b"gate g a { barrier; }", 3, 25),
+    (1, b"gate g a[1] { }", 3, 25),
+    (1, b"gate g a, { }", 3, 25),
+    (1, b"gate g a b { }", 3, 25),
+    (1, b"gate gate a { }", 3, 25),
+    (1, b"gate pi a { }", 3, 25),
+    (1, b"gate g if { }", 3, 25),
+    (1, b"gate g a { measure a; }", 3, 25),
+    (1, b"gate g a { gate k b; }", 3, 25),
+    (1, b"gate g a h a; }", 3, 25),
+    (1, b"gate g a { { }", 3, 25),
+    (1, b"gate g a } { }", 3, 25),
+    (1, b"gate g a { }; h q;", 3, 37),
+    (1, b"gate g a { h a; } g q[0],q[0];", 3, 43),
+    (1, b"gate g a { h a; } }", 3, 43),
+    // Definitions outside the profile.
+    (1, b"gate g(x) a { h a; }", 11, 25),
+    (1, b"gate g() a { h a; }", 11, 25),
+    (1, b"gate g a { u1(pi) a; }", 11, 25),
+    (1, b"gate g a { U(0,0,0) a; }", 11, 25),
+    (1, b"gate g a { CX a,a; }", 11, 25),
+    (1, b"gate U a { h a; }", 11, 25),
+    (1, b"gate ( }", 11, 25),
+    (2, b"gate g a,b { cx a,b; } g q,q[0];", 11, 48),
+    // Names of gates that are known or withheld.
+    (1, b"gate g a { h a; }gate g a { h a; }", 12, 42),
+    (1, b"gate h a { }", 12, 25),
+    (1, b"gate ccx a,b,c { }", 12, 25),
+    (1, b"gate ch a,b { }", 12, 25),
+    (1, b"gate cy a,b { }", 12, 25),
+    (1, b"gate cswap a,b,c { }", 12, 25),
+    (1, b"gate u1 a { }", 12, 25),
+    (1, b"gate rz a { }", 12, 25),
+    (1, b"gate h a,a { foo a; }", 12, 25),
+    // Bodies.
+    (1, b"gate g a { g a; }", 17, 25),
+    (1, b"gate g a { h b; }", 17, 25),
+    (1, b"gate g a,a { h a; }", 17, 25),
+    (1, b"gate g a,b,c,b { }", 17, 25),
+    (1, b"gate g a { k a; } gate k a { }", 17, 25),
+    (1, b"gate g a { barrier a,b; }", 17, 25),
+    (1, b"gate g a { barrier q; }", 17, 25),
+    (1, b"gate g a,b { h a,b; }", 17, 25),
+    (1, b"gate g a,b { cx a; }", 17, 25),
+    (1, b"gate g a,b { cx a,a; }", 17, 25),
+    (1, b"gate g a { h a; u1 a; }", 17, 25),
+    (1, b"gate k a,b { } gate g a { k a; }", 17, 40),
+    // Defined gates that are applied.
+    (1, b"g q[0]; gate g a { }", 4, 25),
+    (1, b"gate g a { } k q[0];", 4, 38),
+    (2, b"gate g a,b { } g q[0],r[0];", 5, 40),
+    (2, b"gate g a,b { } g q[0],q[2];", 6, 40),
+    (2, b"gate g a,b { } g q[1],q[1];", 7, 40),
+    (3, b"gate g a,b,c,d { } g q[0],q[1],q[2],q[0];", 7, 44),
+    (1, b"gate g a { } g q; qreg r[1];", 12, 43),
 ];
 
 #[test]
@@ -458,6 +625,89 @@ fn halves_of_texts(rt: HostRuntime) {
         };
         assert_eq!(rt; found, want, "in {text:?}");
     }
+}
+
+// The header, a register q of so many qubits and a gate g0 with the body; then, up to a gate of the last number, each with a body
+// that has one of the gate before it so many times.
+fn chain(alloc: Global, first: &[u8], last: usize, times: usize) -> Result<Vec<u8>, AllocError> {
+    let mut text = text(alloc, 1, b"gate g0 a {")?;
+    text.extend_from_slice(first)?;
+    text.extend_from_slice(b" }\n")?;
+    for k in 1..last + 1 {
+        let head = format!(in alloc; "gate g{k} a {{")?;
+        text.extend_from_slice(head.as_bytes())?;
+        let call = format!(in alloc; " g{} a;", k - 1)?;
+        for _ in 0..times {
+            text.extend_from_slice(call.as_bytes())?;
+        }
+        text.extend_from_slice(b" }\n")?;
+    }
+    Ok(text)
+}
+
+// The body of the first gate, the number of the last, how often each body has the gate before it, a line behind them, and how many
+// gates there are, or the refusal.
+const CHAINS: [(&[u8], usize, usize, &[u8], Result<usize, (u8, usize)>); 9] = [
+    // A gate that does nothing, 2 to the 60 times.
+    (b"", 60, 2, b"g60 q;", Ok(0)),
+    (b" barrier a;", 60, 2, b"g60 q;", Ok(0)),
+    // Gates nested in one another.
+    (b" h a;", 2900, 1, b"g2900 q;", Ok(1)),
+    // Gates that double.
+    (b" h a; h a;", 13, 2, b"g0 q;", Err((18, 368))),
+    (b" h a; h a;", 12, 2, b"g12 q;", Ok(8192)),
+    (b" h a; h a;", 60, 2, b"g60 q;", Err((18, 368))),
+    (b" t a;", 6, 2, b"g6 q; g5 q; g4 q; g3 q;", Ok(120)),
+    (b" t a;", 7, 2, b"h q; g7 q;", Err((9, 231))),
+    // As many gates as a defined gate may stand for.
+    (
+        b" h a; h a; h a; h a; h a; h a; h a; h a; h a; h a;",
+        3,
+        10,
+        b"g3 q;",
+        Ok(10000),
+    ),
+];
+
+#[test]
+fn chains_of_definitions(rt: HostRuntime) {
+    for (first, last, times, line, want) in CHAINS {
+        let mut text = chain(rt.alloc(), first, last, times).expect(&rt, "memory");
+        text.extend_from_slice(line).expect(&rt, "memory");
+        assert_eq!(rt; outcome(rt.alloc(), &text), want, "at {first:?}, {last}");
+    }
+}
+
+// The header, a register of so many qubits, a gate of 10,000 gates, and it on the register so many times.
+#[test]
+fn as_many_gates_as_there_may_be(rt: HostRuntime) {
+    let ten: &[u8] = b" h a; h a; h a; h a; h a; h a; h a; h a; h a; h a;";
+    let mut text = chain(rt.alloc(), ten, 3, 10).expect(&rt, "memory");
+    for _ in 0..10 {
+        text.extend_from_slice(b"g3 q;").expect(&rt, "memory");
+    }
+    assert_eq!(rt; outcome(rt.alloc(), &text), Ok(100000));
+    let place = text.len();
+    text.extend_from_slice(b"h q;").expect(&rt, "memory");
+    assert_eq!(rt; outcome(rt.alloc(), &text), Err((18, place)));
+}
+
+// A gate with more names than a byte counts, whose body is its last names.
+#[test]
+fn many_names(rt: HostRuntime) {
+    let mut text = text(rt.alloc(), 1, b"gate g n0").expect(&rt, "memory");
+    for k in 1..400 {
+        let name = format!(in rt.alloc(); ",n{k}").expect(&rt, "memory");
+        text.extend_from_slice(name.as_bytes())
+            .expect(&rt, "memory");
+    }
+    text.extend_from_slice(b" { cx n0,n256; t n399; }")
+        .expect(&rt, "memory");
+    assert_eq!(rt; outcome(rt.alloc(), &text), Ok(0));
+    let place = text.len();
+    text.extend_from_slice(b"gate k a { g a; }")
+        .expect(&rt, "memory");
+    assert_eq!(rt; outcome(rt.alloc(), &text), Err((17, place)));
 }
 
 #[test]

@@ -141,6 +141,19 @@ fn outcomes(rt: HostRuntime) -> Result<(), Fail> {
             Status::Found,
             "// t-count 0\n// word\nOPENQASM 2.0;\ninclude \"qelib1.inc\";\nqreg q[3];\n",
         ),
+        // Gates that a text defines.
+        (
+            "12",
+            "OPENQASM 2.0;\nqreg q[2];\ngate cs a,b { t a; t b; cx a,b; tdg b; cx a,b; }\ncs q[0],q[1];\n",
+            Status::Found,
+            "// t-count 3\n// word IZ ZI ZZ\nOPENQASM 2.0;\ninclude \"qelib1.inc\";\nqreg q[2];\nh q[1];\ns q[1];\nh q[1];\ns q[1];\ns q[0];\ns q[0];\ncx q[0],q[1];\nh q[1];\ns q[0];\ncx q[0],q[1];\nt q[1];\ncx q[0],q[1];\nt q[1];\nt q[0];\n",
+        ),
+        (
+            "0",
+            "OPENQASM 2.0;\nqreg q[1];\ngate g a { }\ng q;\n",
+            Status::Found,
+            "// t-count 0\n// word\nOPENQASM 2.0;\ninclude \"qelib1.inc\";\nqreg q[1];\n",
+        ),
         // A file of an exporter: an include, a comment, lines ended by carriage return and line feed, a barrier.
         (
             "12",
@@ -201,6 +214,41 @@ fn refusals(rt: HostRuntime) -> Result<(), Fail> {
             "refused 12 at 25\n",
         ),
         ("0", "OPENQASM 2.0;\nqreg q[1];\n#\n", "refused 2 at 25\n"),
+        (
+            "0",
+            "OPENQASM 2.0;\nqreg q[1];\ngate g a { g a; }\n",
+            "refused 17 at 25\n",
+        ),
+        (
+            "0",
+            "OPENQASM 2.0;\nqreg q[1];\ngate g a { h b; }\n",
+            "refused 17 at 25\n",
+        ),
+        (
+            "0",
+            "OPENQASM 2.0;\nqreg q[1];\ngate g a,a { h a; }\n",
+            "refused 17 at 25\n",
+        ),
+        (
+            "0",
+            "OPENQASM 2.0;\nqreg q[1];\ngate g a { h a; }\ngate g a { h a; }\n",
+            "refused 12 at 43\n",
+        ),
+        (
+            "0",
+            "OPENQASM 2.0;\nqreg q[1];\ngate g a { h a;\n",
+            "refused 3 at 25\n",
+        ),
+        (
+            "0",
+            "OPENQASM 2.0;\nqreg q[1];\ngate g(x) a { h a; }\n",
+            "refused 11 at 25\n",
+        ),
+        (
+            "0",
+            "OPENQASM 2.0;\nqreg q[1];\ngate g0 a { h a; h a; }\ngate g1 a { g0 a; g0 a; }\ngate g2 a { g1 a; g1 a; }\ngate g3 a { g2 a; g2 a; }\ngate g4 a { g3 a; g3 a; }\ngate g5 a { g4 a; g4 a; }\ngate g6 a { g5 a; g5 a; }\ngate g7 a { g6 a; g6 a; }\ngate g8 a { g7 a; g7 a; }\ngate g9 a { g8 a; g8 a; }\ngate g10 a { g9 a; g9 a; }\ngate g11 a { g10 a; g10 a; }\ngate g12 a { g11 a; g11 a; }\ngate g13 a { g12 a; g12 a; }\n",
+            "refused 18 at 368\n",
+        ),
         (
             "9",
             "OPENQASM 2.0;\nqreg q[3];\n",
@@ -495,6 +543,18 @@ fn toffoli(rt: HostRuntime) -> Result<(), Fail> {
     let (status, bytes) = answer(&rt, rt.alloc(), &["synth", "7", "4"], text, &OpenWay)?;
     assert_eq!(rt; status, Status::Found);
     assert!(rt; bytes.starts_with(b"// t-count 7\n// word "));
+    assert!(rt; are_same(&rt, rt.alloc(), text, &bytes)?);
+    Ok(())
+}
+
+// A controlled controlled z by a definition takes seven T gates, too.
+#[test]
+fn defined_gate(rt: HostRuntime) -> Result<(), Fail> {
+    let text =
+        b"OPENQASM 2.0;\nqreg q[3];\ngate ccz a,b,c { h c; ccx a,b,c; h c; }\nccz q[0],q[1],q[2];\n".as_slice();
+    let (status, bytes) = answer(&rt, rt.alloc(), &["synth", "7", "4"], text, &OpenWay)?;
+    assert_eq!(rt; status, Status::Found);
+    assert!(rt; bytes.starts_with(b"// t-count 7\n"));
     assert!(rt; are_same(&rt, rt.alloc(), text, &bytes)?);
     Ok(())
 }

@@ -47,6 +47,7 @@ statements-preserved c =
           ∙ scan_step text ts at size s c.statements-test.true c.first_len-size.ensures.value
           ∙ ap (λ (o : Option Refusal). refused_or o (place_of 0 p) (scan (after s (form_of p)) rest)) takes.0
           ∙ ap (λ (t : State). scan t rest) (sym takes.1);
+      kept = takes.2;
     }
 
 pub returns-clause-ok : goal.returns-clause-ok

@@ -1,0 +1,202 @@
+-- What is kept of definitions, one after another.
+use Rattle.std.proofs.Common.{◌≡◌, ℕ, zero, suc, ◌+◌, ◌-◌, ◌<◌, ◌≤◌, Bool, true, false, cond, ◌||◌, List, [], ◌∷◌, ◌++◌, Bor, length, map, take, get_or, min, Option, Some, None, arith, ap, ◌∙◌, sym, refl, subst, ⊎_elim}
+use Rattle.std.specs.Str.{bytes_eq}
+use Rattle.std.specs.List.{list_any}
+use Rattle.std.specs.Prelude.{option_map, nat_le, IfSome}
+use Rattle.std.specs.Option.{ForSome, ForNone}
+use Rattle.std.proofs.lemmas.List.{get_or_default, map-append, map_more, length-map}
+use Rattle.std.proofs.lemmas.Bool.{leb-true}
+use Rattle.tc_circuit.specs.declared.circuit.Gate.{Gate}
+use Rattle.tc_circuit.specs.Circuit.{Gates as Made}
+use Rattle.tc_circuit.specs.Model.{IsCircuit, t_count_of}
+use Rattle.qasm_reader.specs.declared.gates.Size.{Size}
+use Rattle.qasm_reader.specs.declared.scan.Defined.{Defined}
+use Rattle.qasm_reader.specs.declared.statements.Statement.{Statement as CodeStatement}
+use Rattle.qasm_reader.specs.Limits.{most_qubits, most_t_gates, most_gates_defined}
+use Rattle.qasm_reader.specs.Rows.{is_bad_entry}
+use Rattle.qasm_reader.specs.Known.{Known, table, known}
+use Rattle.qasm_reader.specs.State.{State, gates_at, gate_in, gate_qubits, gates_in, place_among, with_gate}
+use Rattle.qasm_reader.specs.View.{form, name_list, entries, counted_size, gates_made, size_of, size_or_nothing, count_at, gate_of, gates_of, gates_with, known_behind, IsKept, AreKeptBehind, AreKept, IsDefinedAs, IsBehind}
+use Rattle.qasm_reader.proofs.Placing.{t_count-at, length-at, t_count-few}
+use Rattle.qasm_reader.proofs.Places.{or_false, or_right}
+use Rattle.qasm_reader.proofs.Takeable.{AreSound, table_sound, look_up_is, sound_more, body_fits}
+
+-- the gates that are known, as a function of names
+abbrev Gates : Type 0
+Gates = List ℕ → Option Known
+
+-- one definition more is known
+abbrev with_definition : Gates → Defined → Gates
+with_definition gates d = with_gate d.definition.name.now (gate_of gates d) gates
+
+-- one definition more at the end
+pub known-push : (gates : Gates) (ds : List Defined) (d : Defined) → known_behind gates (ds ++ d ∷ []) ≡ with_definition (known_behind gates ds) d
+known-push gates [] d = refl
+known-push gates (x ∷ ds) d = known-push (with_definition gates x) ds d
+
+pub kept-push : (gates : Gates) (ds : List Defined) (d : Defined) → AreKeptBehind gates ds → IsKept (gate_of (known_behind gates ds) d) d → AreKeptBehind gates (ds ++ d ∷ [])
+kept-push gates [] d a h = (h, tt)
+kept-push gates (x ∷ ds) d a h = (a.0, kept-push (with_definition gates x) ds d a.1 h)
+
+-- each definition is kept behind those before it
+kept_at : (gates : Gates) (ds : List Defined) (i : ℕ) (d : Defined) → i < length ds → AreKeptBehind gates ds → IsKept (gate_of (known_behind gates (take i ds)) (get_or ds i d)) (get_or ds i d)
+kept_at gates [] i d h a = absurd (omega arith)
+kept_at gates (x ∷ ds) zero d h a = a.0
+kept_at gates (x ∷ ds) (suc i) d h a = kept_at (with_definition gates x) ds i d (omega arith) a.1
+
+-- what is known behind one definition more
+known_at : (gates : Gates) (ds : List Defined) (i : ℕ) (d : Defined) → i < length ds
+    → known_behind gates (take (suc i) ds) ≡ with_definition (known_behind gates (take i ds)) (get_or ds i d)
+known_at gates [] i d h = absurd (omega arith)
+known_at gates (x ∷ ds) zero d h = refl
+known_at gates (x ∷ ds) (suc i) d h = known_at (with_definition gates x) ds i d (omega arith)
+
+-- a definition of another name is passed over
+pub other_definition : (ds : List Defined) (i : ℕ) (d : Defined) (name : List ℕ) → i < length ds → bytes_eq name (get_or ds i d).definition.name.now ≡ false
+    → known_behind known (take (i + 1) ds) name ≡ known_behind known (take i ds) name
+other_definition ds i d name h e =
+    let more : i + 1 ≡ suc i = omega arith in
+    ap (λ (n : ℕ). known_behind known (take n ds) name) more
+    ∙ ap (λ (f : Gates). f name) (known_at known ds i d h)
+    ∙ ap (λ (t : Bool). cond t (Some (gate_of (known_behind known (take i ds)) (get_or ds i d))) (known_behind known (take i ds) name)) e
+
+-- a definition of the name is the gate's
+pub this_definition : (ds : List Defined) (i : ℕ) (d x : Defined) (name : List ℕ) → i < length ds → bytes_eq name (get_or ds i d).definition.name.now ≡ true → x ≡ get_or ds i x → AreKept ds
+    → IsDefinedAs (known_behind known (take (i + 1) ds) name) x
+this_definition ds i d x name h e is kept =
+    let more : i + 1 ≡ suc i = omega arith in
+    let here : bytes_eq name x.definition.name.now ≡ true =
+    ap (λ (y : Defined). bytes_eq name y.definition.name.now) (is ∙ get_or_default ds i x d h) ∙ e in
+    record {
+      gate = gate_of (known_behind known (take i ds)) x;
+      is = ap (λ (n : ℕ). known_behind known (take n ds) name) more
+          ∙ ap (λ (f : Gates). f name) (known_at known ds i x h)
+          ∙ ap (λ (y : Defined). with_definition (known_behind known (take i ds)) y name) (sym is)
+          ∙ ap (λ (t : Bool). cond t (Some (gate_of (known_behind known (take i ds)) x)) (known_behind known (take i ds) name)) here;
+      kept = subst (λ (y : Defined). IsKept (gate_of (known_behind known (take i ds)) y) y) (sym is) (kept_at known ds i x h kept);
+    }
+
+-- a definition of what is known has its size and, where it takes few arguments, its gates
+pub defined_size : (o : Option Known) (d : Defined) → IsDefinedAs o d → Some d.size ≡ option_map size_of o
+defined_size o d h = ap (λ (z : Size). Some z) h.kept.size ∙ sym (ap (option_map size_of) h.is)
+
+pub defined_gates : (o : Option Known) (d : Defined) → IsDefinedAs o d → IfSome o (λ g. g.arity ≤ most_qubits) → d.gates.items ≡ gates_of o
+defined_gates o d h few =
+    let narrow : IfSome (Some h.gate) (λ g. g.arity ≤ most_qubits) = subst (λ (x : Option Known). IfSome x (λ g. g.arity ≤ most_qubits)) h.is few in
+    h.kept.gates narrow ∙ sym (ap gates_of h.is)
+
+-- the gates that are known behind definitions are sound
+pub sound_behind : (gates : Gates) (ds : List Defined) → AreSound gates → AreKeptBehind gates ds → AreSound (known_behind gates ds)
+sound_behind gates [] s k = s
+sound_behind gates (d ∷ ds) s k = sound_behind (with_definition gates d) ds (sound_more d.definition.name.now (gate_of gates d) gates (k.0.some, k.0.fit) s) k.1
+
+-- each known gate stands for few gates
+abbrev pub AreFew : Gates → Type 0
+AreFew gates = (name : List ℕ) (g : Known) → gates name ≡ Some g → length g.gates ≤ most_gates_defined
+
+is_few : Known → Bool
+is_few g = nat_le (length g.gates) most_gates_defined
+
+table_few : AreFew known
+unfolding known is_few
+table_few name g e = leb-true _ _ (look_up_is is_few table name g refl e)
+
+few_more : (name : List ℕ) (g : Known) (gates : Gates) → length g.gates ≤ most_gates_defined → AreFew gates → AreFew (with_gate name g gates)
+few_more name g gates h few other k e = go (bytes_eq other name) refl e
+  where
+    go : (t : Bool) → bytes_eq other name ≡ t → cond t (Some g) (gates other) ≡ Some k → length k.gates ≤ most_gates_defined
+    go true f same = let one : g ≡ k = cc in subst (λ (x : Known). length x.gates ≤ most_gates_defined) one h
+    go false f same = few other k same
+
+few_behind : (gates : Gates) (ds : List Defined) → AreFew gates → AreKeptBehind gates ds → AreFew (known_behind gates ds)
+few_behind gates [] s k = s
+few_behind gates (d ∷ ds) s k = few_behind (with_definition gates d) ds (few_more d.definition.name.now (gate_of gates d) gates k.0.few s) k.1
+
+pub kept_few : (ds : List Defined) → AreKept ds → AreFew (known_behind known ds)
+kept_few ds k = few_behind known ds table_few k
+
+pub kept_sound : (ds : List Defined) → AreKept ds → AreSound (known_behind known ds)
+kept_sound ds k = sound_behind known ds table_sound k
+
+-- a gate by its size and its gates
+pub gates_with-is : (o : Option Known) (qs : List ℕ) → gates_with (option_map size_of o) (gates_of o) qs ≡ gates_at o qs
+gates_with-is None qs = refl
+gates_with-is (Some g) qs = refl
+
+-- the T gates of a statement's gate, by what the statement says
+pub t_count-behind : (s : State) (p : CodeStatement) → IsBehind s p → t_count_of (gates_in s (option_map form p.form)) ≡ count_at (λ z. z.t_count) p.size (length p.qubits.items)
+t_count-behind s p h =
+    t_count-at (gate_in s.known (option_map form p.form)) (gate_qubits s (option_map form p.form))
+    ∙ ap (λ (z : Option Size). count_at (λ z. z.t_count) z (length (gate_qubits s (option_map form p.form)))) (sym h.size)
+    ∙ ap (λ (qs : List ℕ). count_at (λ z. z.t_count) p.size (length qs)) (sym h.qubits)
+
+-- and all its gates
+pub length-behind : (s : State) (p : CodeStatement) → IsBehind s p → length (gates_in s (option_map form p.form)) ≡ count_at (λ z. z.length) p.size (length p.qubits.items)
+length-behind s p h =
+    length-at (gate_in s.known (option_map form p.form)) (gate_qubits s (option_map form p.form))
+    ∙ ap (λ (z : Option Size). count_at (λ z. z.length) z (length (gate_qubits s (option_map form p.form)))) (sym h.size)
+    ∙ ap (λ (qs : List ℕ). count_at (λ z. z.length) p.size (length qs)) (sym h.qubits)
+
+-- the T gates that a scan has counted are those of its circuit
+pub t_count-made : (o : Option Made) (t : ℕ) → ForSome o (λ c. t ≡ t_count_of c.gates) → ForNone o (t ≡ 0) → t ≡ t_count_of (gates_made o)
+t_count-made None t some none = none refl
+t_count-made (Some c) t some none = some c refl
+
+-- the size of a gate that may be known is small
+pub size_small : (o : Option Known) → ((g : Known) → o ≡ Some g → length g.gates ≤ most_gates_defined)
+    → ((size_or_nothing (option_map size_of o)).length ≤ most_gates_defined) × ((size_or_nothing (option_map size_of o)).t_count ≤ most_gates_defined)
+size_small None h = (omega arith, omega arith)
+size_small (Some g) h = let few = h g refl in (few, omega (arith, few, t_count-few g.gates))
+
+-- where no element passes, one at a place doesn't
+pub none_at : {A B : Type 0} (p : B → Bool) (f : A → B) (xs : List A) (i : ℕ) (d : A) → list_any p (map f xs) ≡ false → i < length xs → p (f (get_or xs i d)) ≡ false
+none_at p f [] i d e h = absurd (omega arith)
+none_at p f (x ∷ xs) zero d e h = (or_false (p (f x)) _ e).0
+none_at p f (x ∷ xs) (suc i) d e h = none_at p f xs i d (or_false (p (f x)) _ e).1 (omega arith)
+
+-- where one at a place passes, an element does
+pub some_at : {A B : Type 0} (p : B → Bool) (f : A → B) (xs : List A) (i : ℕ) (d : A) → p (f (get_or xs i d)) ≡ true → i < length xs → list_any p (map f xs) ≡ true
+some_at p f [] i d e h = absurd (omega arith)
+some_at p f (x ∷ xs) zero d e h = ap (λ (t : Bool). t || list_any p (map f xs)) e
+some_at p f (x ∷ xs) (suc i) d e h = or_right (p (f x)) _ (some_at p f xs i d e (omega arith))
+
+-- the places of names with one name more
+pub places_more : (names : List (List ℕ)) (args : List (Bor (List ℕ))) (i : ℕ) (d : Bor (List ℕ)) → i < length args
+    → map (place_among names) (name_list (take (i + 1) args)) ≡ map (place_among names) (name_list (take i args)) ++ place_among names (get_or args i d).now ∷ []
+places_more names args i d h =
+    ap (map (place_among names)) (map_more (λ (b : Bor (List ℕ)). b.now) args i d h) ∙ map-append (place_among names) (name_list (take i args)) ((get_or args i d).now ∷ [])
+
+-- a size that is small is counted exactly
+counted_exact : (g : Known) → length g.gates ≤ most_gates_defined → counted_size g ≡ size_of g
+counted_exact g few =
+    let low = t_count-few g.gates in
+    let a : min (length g.gates) (most_gates_defined + 1) ≡ length g.gates = omega (arith, few) in
+    let b : min (t_count_of g.gates) (most_gates_defined + 1) ≡ t_count_of g.gates = omega (arith, few, low) in
+    λ i. record { arity = g.arity; length = a i; t_count = b i }
+
+-- a definition that can be taken is kept
+pub kept_new : (ds : List Defined) (d : Defined) → AreKept ds → 0 < length d.definition.names.items → length (gate_of (known_behind known ds) d).gates ≤ most_gates_defined
+    → list_any (is_bad_entry (known_behind known ds) (name_list d.definition.names.items)) (entries d.definition.body.items) ≡ false
+    → d.size ≡ counted_size (gate_of (known_behind known ds) d) → (length d.definition.names.items ≤ most_qubits → d.gates.items ≡ (gate_of (known_behind known ds) d).gates)
+    → IsKept (gate_of (known_behind known ds) d) d
+kept_new ds d kept some few good size gates =
+    let names : length (name_list d.definition.names.items) ≡ length d.definition.names.items = length-map d.definition.names.items (λ (b : Bor (List ℕ)). b.now) in
+    record {
+      size = size ∙ counted_exact (gate_of (known_behind known ds) d) few;
+      gates = λ narrow. gates (omega (arith, narrow, names));
+      some = omega (arith, some, names);
+      fit = body_fits (known_behind known ds) (name_list d.definition.names.items) (entries d.definition.body.items) (kept_sound ds kept) good;
+      few = few;
+    }
+
+-- the gates that are pushed for a name
+pub pushed_gates : (o p : Option Known) (size : Option Size) (gates : List Gate) (qs : List ℕ) → size ≡ option_map size_of o → gates ≡ gates_of p → p ≡ o → gates_with size gates qs ≡ gates_at o qs
+pushed_gates o p size gates qs a b c =
+    ap (λ (z : Option Size). gates_with z gates qs) a ∙ ap (λ (g : List Gate). gates_with (option_map size_of o) g qs) (b ∙ ap gates_of c) ∙ gates_with-is o qs
+
+-- and their T gates
+pub pushed_count : (o : Option Known) (size : Option Size) (qs : List ℕ) (n t : ℕ) → size ≡ option_map size_of o → n ≡ min (count_at (λ z. z.t_count) size (length qs)) 18446744073709551615
+    → t + t_count_of (gates_at o qs) ≤ most_t_gates → n ≡ t_count_of (gates_at o qs)
+pushed_count o size qs n t is count few =
+    let added = t_count-at o qs ∙ ap (λ (z : Option Size). count_at (λ z. z.t_count) z (length qs)) (sym is) in
+    omega (arith, added, count, few)

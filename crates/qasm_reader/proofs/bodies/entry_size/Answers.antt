@@ -1,0 +1,19 @@
+use Rattle.std.proofs.Common.{◌≤◌, ◌∙◌, ap, sym, subst}
+use Rattle.qasm_reader.specs.declared.gates.Size.{Size}
+use Rattle.qasm_reader.specs.Limits.{most_gates_defined}
+use Rattle.qasm_reader.specs.Known.{known}
+use Rattle.qasm_reader.specs.View.{known_behind, size_or_nothing}
+use Rattle.qasm_reader.proofs.Kept.{kept_few, size_small}
+use Rattle.qasm_reader.proofs.bodies.entry_size.Goals as goal
+
+pub returns-in-Call-clause-few : goal.returns-in-Call-clause-few
+returns-in-Call-clause-few c =
+    let list = c.args.list.now in
+    let small = size_small (known_behind known list c.in-Call.name.now) (kept_few list c.requires c.in-Call.name.now) in
+    subst (λ (z : Size). z.length ≤ most_gates_defined) (sym (c.size_or_nothing.ensures ∙ ap size_or_nothing c.size_by_name.ensures)) small.0
+
+pub returns-in-Call-clause-low : goal.returns-in-Call-clause-low
+returns-in-Call-clause-low c =
+    let list = c.args.list.now in
+    let small = size_small (known_behind known list c.in-Call.name.now) (kept_few list c.requires c.in-Call.name.now) in
+    subst (λ (z : Size). z.t_count ≤ most_gates_defined) (sym (c.size_or_nothing.ensures ∙ ap size_or_nothing c.size_by_name.ensures)) small.1

@@ -1,0 +1,234 @@
+// The bodies of definitions: whether they are good, how many gates they stand for, and these gates.
+ghost use Rattle.std.specs.Prelude.{◌≡◌, ◌≤◌, ◌++◌, ℕ, ◌||◌, not, List, false, length, map, IfOk, OnOk, Option, option_map};
+ghost use Rattle.std.specs.List.{list_any, prefix_len};
+ghost use Rattle.std.specs.Str.{bytes_eq};
+ghost use Rattle.tc_circuit.specs.Model.{t_count_of};
+ghost use Rattle.qasm_reader.specs.Limits.{most_qubits, most_gates_defined};
+ghost use Rattle.qasm_reader.specs.Known.{known};
+ghost use Rattle.qasm_reader.specs.State.{place_among, placed, entry_gates, defined};
+ghost use Rattle.qasm_reader.specs.Rows.{is_among, has_twin_names, has_stranger, is_bad_call, is_bad_entry};
+ghost use Rattle.qasm_reader.specs.View.{size_or_nothing, name_list, names, entry, entries, known_behind, counted_size, AreKept};
+
+use crate::circuits::placed;
+use crate::definitions::{gates_by_name, size_by_name};
+use crate::finding::{add_name, contains_name};
+use crate::forms::{Definition, Entry};
+use crate::gates::Size;
+use crate::limits::MOST_GATES_DEFINED;
+use crate::scan::Defined;
+use std::alloc::{AllocError, Global};
+use std::collections::BTreeSet;
+use tc_circuit::Gate;
+
+// Whether a name stands twice among the names.
+fn has_twin_names(alloc: Global, list: &[&[u8]]) -> Result<bool, AllocError>
+    ensures { IfOk result (λ twins. twins ≡ has_twin_names (name_list list.now)) }
+{
+    let mut behind = BTreeSet::new(alloc);
+    let mut at = list.len();
+    'names: while at > 0 {
+        at -= 1;
+        if contains_name(&behind, list[at]) {
+            return Ok(true);
+        }
+        add_name(&mut behind, list[at])?;
+    }
+    Ok(false)
+}
+
+// The names as a set.
+fn set_of<'a>(alloc: Global, list: &[&'a [u8]]) -> Result<BTreeSet<&'a [u8]>, AllocError>
+    ensures { IfOk result (λ set. (other : List ℕ) → names set other ≡ is_among (name_list list.now) other) }
+{
+    let mut set = BTreeSet::new(alloc);
+    let mut at = list.len();
+    'names: while at > 0 {
+        at -= 1;
+        add_name(&mut set, list[at])?;
+    }
+    Ok(set)
+}
+
+// Whether one of the names isn't in the set.
+fn has_stranger<'a>(set: &BTreeSet<&'a [u8]>, args: &[&'a [u8]]) -> bool
+    ensures { result ≡ list_any (λ a. not (names set.now a)) (name_list args.now) }
+{
+    for name in args {
+        if !contains_name(set, *name) {
+            return true;
+        }
+    }
+    false
+}
+
+// Whether a gate of this size isn't known, takes another number of arguments, or has one twice.
+fn is_bad_call(alloc: Global, size: Option<Size>, args: &[&[u8]]) -> Result<bool, AllocError>
+    ensures { IfOk result (λ bad. bad ≡ is_bad_call (option_map (λ z. z.arity) size) (name_list args.now)) }
+{
+    match size {
+        None => Ok(true),
+        Some(size) if size.arity != args.len() => Ok(true),
+        Some(_) => has_twin_names(alloc, args),
+    }
+}
+
+// Whether an entry holds a name that isn't in the set, or misuses a gate.
+fn is_bad_entry<'a>(
+    alloc: Global,
+    list: &[Defined],
+    set: &BTreeSet<&'a [u8]>,
+    line: &Entry<'a>,
+) -> Result<bool, AllocError>
+    requires { AreKept list.now }
+    ensures { IfOk result (λ bad. (among : List (List ℕ)) → ((other : List ℕ) → names set.now other ≡ is_among among other) → bad ≡ is_bad_entry (known_behind known list.now) among (entry line.now)) }
+{
+    match line {
+        Entry::Barrier(args) => Ok(has_stranger(set, args)),
+        Entry::Call(_, args) if has_stranger(set, args) => Ok(true),
+        Entry::Call(name, args) => is_bad_call(alloc, size_by_name(list, name), args),
+    }
+}
+
+// Whether a name stands twice among the names of a definition, or an entry of its body is bad.
+pub(crate) fn has_bad_body<'a>(
+    alloc: Global,
+    list: &[Defined],
+    definition: &Definition<'a>,
+) -> Result<bool, AllocError>
+    requires { AreKept list.now }
+    ensures { IfOk result (λ bad. bad ≡ (has_twin_names (name_list definition.now.names.items) || list_any (is_bad_entry (known_behind known list.now) (name_list definition.now.names.items)) (entries definition.now.body.items))) }
+{
+    if has_twin_names(alloc, &definition.names)? {
+        return Ok(true);
+    }
+    let set = set_of(alloc, &definition.names)?;
+    for line in &definition.body {
+        if is_bad_entry(alloc, list, &set, line)? {
+            return Ok(true);
+        }
+    }
+    Ok(false)
+}
+
+pub(crate) const NOTHING: Size = Size {
+    arity: 0,
+    length: 0,
+    t_count: 0,
+};
+
+fn size_or_nothing(size: Option<Size>) -> Size
+    ensures { result ≡ size_or_nothing size }
+{
+    size.unwrap_or(NOTHING)
+}
+
+// How many gates an entry stands for, and how many of them are T gates.
+fn entry_size(list: &[Defined], line: &Entry) -> Size
+    requires { AreKept list.now }
+    ensures length { (among : List (List ℕ)) → result.length ≡ length (entry_gates (known_behind known list.now) among (entry line.now)) }
+    ensures t_count { (among : List (List ℕ)) → result.t_count ≡ t_count_of (entry_gates (known_behind known list.now) among (entry line.now)) }
+    ensures few { result.length ≤ most_gates_defined }
+    ensures low { result.t_count ≤ most_gates_defined }
+{
+    match line {
+        Entry::Barrier(_) => NOTHING,
+        Entry::Call(name, _) => size_or_nothing(size_by_name(list, name)),
+    }
+}
+
+// The size of the gate of a definition, where gates are counted up to one more than the most.
+pub(crate) fn body_size(list: &[Defined], definition: &Definition) -> Size
+    requires { AreKept list.now }
+    ensures { result ≡ counted_size (defined (known_behind known list.now) (name_list definition.now.names.items) (entries definition.now.body.items)) }
+{
+    let mut length = 0;
+    let mut t_count = 0;
+    for line in &definition.body {
+        let size = entry_size(list, line);
+        length = (length + size.length).min(MOST_GATES_DEFINED + 1);
+        t_count = (t_count + size.t_count).min(MOST_GATES_DEFINED + 1);
+    }
+    Size {
+        arity: definition.names.len(),
+        length,
+        t_count,
+    }
+}
+
+// How many names stand before the name.
+fn len_before(list: &[&[u8]], name: &[u8]) -> usize
+    ensures value { result ≡ prefix_len (λ n. not (bytes_eq name.now n.now)) list.now }
+    ensures within { result ≤ length list.now }
+{
+    list.iter().take_while(|other| name != **other).count()
+}
+
+// The place of a name among few names, or their number.
+fn place_among(list: &[&[u8]], name: &[u8]) -> u8
+    requires { length list.now ≤ most_qubits }
+    ensures { result ≡ place_among (name_list list.now) name.now }
+{
+    len_before(list, name) as u8
+}
+
+// The places of names among few names.
+fn places_among(alloc: Global, list: &[&[u8]], args: &[&[u8]]) -> Result<Vec<u8>, AllocError>
+    requires { length list.now ≤ most_qubits }
+    ensures { IfOk result (λ v. v.items ≡ map (place_among (name_list list.now)) (name_list args.now)) }
+{
+    let mut places = Vec::with_capacity(alloc, args.len())?;
+    for name in args {
+        places.push(place_among(list, *name))?;
+    }
+    Ok(places)
+}
+
+// Adds gates on the qubits in place of the numbers of their arguments.
+fn push_placed(found: &mut Vec<Gate>, gates: &[Gate], qubits: &[u8]) -> Result<(), AllocError>
+    ensures { OnOk result (found.new.items ≡ found.old.items ++ map (placed qubits.now) gates.now) }
+{
+    for gate in gates {
+        found.push(placed(qubits, *gate))?;
+    }
+    Ok(())
+}
+
+// Adds the gates of an entry.
+fn push_entry(
+    alloc: Global,
+    found: &mut Vec<Gate>,
+    list: &[Defined],
+    among: &[&[u8]],
+    line: &Entry,
+) -> Result<(), AllocError>
+    requires kept { AreKept list.now }
+    requires narrow { length among.now ≤ most_qubits }
+    requires good { is_bad_entry (known_behind known list.now) (name_list among.now) (entry line.now) ≡ false }
+    ensures { OnOk result (found.new.items ≡ found.old.items ++ entry_gates (known_behind known list.now) (name_list among.now) (entry line.now)) }
+{
+    match line {
+        Entry::Barrier(_) => Ok(()),
+        Entry::Call(name, args) => {
+            let places = places_among(alloc, among, args)?;
+            push_placed(found, gates_by_name(list, name), &places)
+        }
+    }
+}
+
+// The gates of a definition, on the places of its names.
+pub(crate) fn gates_defined(
+    alloc: Global,
+    list: &[Defined],
+    definition: &Definition,
+) -> Result<Vec<Gate>, AllocError>
+    requires kept { AreKept list.now }
+    requires narrow { length definition.now.names.items ≤ most_qubits }
+    requires good { list_any (is_bad_entry (known_behind known list.now) (name_list definition.now.names.items)) (entries definition.now.body.items) ≡ false }
+    ensures { IfOk result (λ v. v.items ≡ (defined (known_behind known list.now) (name_list definition.now.names.items) (entries definition.now.body.items)).gates) }
+{
+    let mut gates = Vec::new(alloc);
+    for line in &definition.body {
+        push_entry(alloc, &mut gates, list, &definition.names, line)?;
+    }
+    Ok(gates)
+}
