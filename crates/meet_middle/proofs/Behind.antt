@@ -72,5 +72,5 @@ told m now words held is view q p code own d below other circuit commuting rows 
       fits = omega (arith, fit, read);
       near = omega (arith, fit, read, count.few, ap (λ c. c.exponent) view);
       least = subst (λ k. IsLeastExponentOf now.qubits (removed now.qubits (scaled now) (p ∷ [])) (k + 1 - divisions)) (sym read)
-      (subst (λ c. IsLeastExponentOf c.qubits (removed c.qubits (scaled c) (p ∷ [])) (m.exponent + 1 - divisions)) view least);
+          (subst (λ c. IsLeastExponentOf c.qubits (removed c.qubits (scaled c) (p ∷ [])) (m.exponent + 1 - divisions)) view least);
     }

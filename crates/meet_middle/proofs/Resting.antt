@@ -1,5 +1,5 @@
 -- What is left of a target behind a front.
-use Rattle.std.proofs.Common.{◌≡◌, ◌≢◌, ℕ, true, ◌+◌, ◌^◌, ◌<◌, ◌≤◌, List, [], ◌∷◌, ◌++◌, Option, Some, None, length, slice_index_or, refl, ap, sym, ◌∙◌, subst, arith}
+use Rattle.std.proofs.Common.{◌≡◌, ℕ, true, ◌+◌, ◌^◌, ◌<◌, ◌≤◌, List, [], ◌∷◌, ◌++◌, Option, Some, None, refl, ap, sym, ◌∙◌, subst}
 use Rattle.ring_laws.specs.Matrix.{product, Agree}
 use Rattle.tc_ring.specs.Surds.{surds}
 use Rattle.channel_rep.specs.Cells.{ChannelGrid, scaled, table_of}
@@ -8,7 +8,7 @@ use Rattle.channel_rep.specs.Words.{IsWord}
 use Rattle.channel_rep.proofs.Built.{same_table_sym, same_table_trans}
 use Rattle.coset_label.specs.Labels.{Label, IsLabelOf}
 use Rattle.coset_label.specs.Words.{RotationWord}
-use Rattle.level_laws.specs.Levels.{IsLevel, StandsIn, removed}
+use Rattle.level_laws.specs.Levels.{StandsIn, removed}
 use Rattle.level_laws.proofs.Exponents.{past_level}
 use Rattle.level_laws.proofs.Follow.{off_circuit}
 use Rattle.level_laws.proofs.Finding.{found_of_same}

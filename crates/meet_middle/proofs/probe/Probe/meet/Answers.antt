@@ -1,4 +1,4 @@
-use Rattle.std.proofs.Common.{◌≡◌, ◌≢◌, ℕ, ◌^◌, ◌<◌, ◌+◌, List, [], ◌∷◌, ◌++◌, Option, IfSome, ap, sym, ◌∙◌, subst, arith, rules}
+use Rattle.std.proofs.Common.{◌≡◌, ◌≢◌, ℕ, ◌^◌, ◌<◌, List, [], ◌∷◌, ◌++◌, Option, IfSome, ap, sym, ◌∙◌, subst, arith, rules}
 use Rattle.std.proofs.lemmas.List.{append-nil}
 use Rattle.channel_rep.specs.Cells.{ChannelGrid, scaled}
 use Rattle.channel_rep.specs.Tables.{IsCircuitChannel}
