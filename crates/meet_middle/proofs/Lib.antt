@@ -1,3 +1,4 @@
+pub mod Behind
 pub mod Few
 pub mod Halving
 pub mod Keeping

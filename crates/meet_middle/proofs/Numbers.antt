@@ -1,17 +1,14 @@
--- The word of a number.
-use Rattle.std.proofs.Common.{◌≡◌, ℕ, ◌<◌, true, List, [], Option, None, Some, All, length, slice_get, slice_index_or, eqb, ap, sym, ◌∙◌, subst, true≢false}
-use Rattle.std.specs.Option.{option_eq}
-use Rattle.std.proofs.lemmas.Bool.Decides.{Decides-eqb}
+-- The word of a number, and words that are compared.
+use Rattle.std.proofs.Common.{◌≡◌, ℕ, ◌^◌, ◌<◌, ◌&&◌, true, nat_eq, List, [], Some, All, length, slice_get, slice_index_or, ap, sym, ◌∙◌, subst}
 use Rattle.std.proofs.lemmas.List.{get_or-map}
 use Rattle.std.proofs.lemmas.Option.{get_or_from_slice_get}
-use Rattle.coset_label.specs.Words.{RotationWord}
+use Rattle.std.proofs.lemmas.Bool.Decides.{Decides-and, Decides-eqb}
+use Rattle.coset_label.specs.Packing.{digits}
+use Rattle.coset_label.specs.Words.{RotationWord, IsShortWord, packed}
+use Rattle.coset_label.proofs.Digits.{digits_packed}
+use Rattle.coset_label.proofs.PackedWords.{digits_below}
 use Rattle.level_store.specs.declared.level.Level.{Level}
 use Rattle.level_store.specs.Stored.{letters_in, words_of}
-
--- an equal number is the number
-pub same_number : (o : Option ℕ) (k : ℕ) → option_eq eqb o (Some k) ≡ true → o ≡ Some k
-same_number None k e = absurd (true≢false (sym e))
-same_number (Some j) k e = ap Some ((Decides-eqb j k).0 e)
 
 -- the word of a number is on as many qubits as all
 pub word_qubits : (n : ℕ) (words : List RotationWord) (k : ℕ) (w : RotationWord) → k < length words → slice_get words k ≡ Some w → All (λ (v : RotationWord). v.qubits ≡ n) words → w.qubits ≡ n
@@ -21,3 +18,15 @@ word_qubits n words k w l at all = subst (λ (v : RotationWord). v.qubits ≡ n)
 pub word_letters : (l : Level) (k : ℕ) (w : RotationWord) → k < length (words_of l) → slice_get (words_of l) k ≡ Some w → w.letters ≡ slice_index_or (letters_in l) k []
 word_letters l k w lt at =
     sym (get_or-map (λ (v : RotationWord). v.letters) (words_of l) k w [] lt ∙ ap (λ (v : RotationWord). v.letters) (get_or_from_slice_get (words_of l) k w w at))
+
+-- the packed letters of a word, cut again
+cut : (w : RotationWord) → IsShortWord w → digits (4 ^ w.qubits) (length w.letters) (packed w.qubits w.letters) ≡ w.letters
+cut w h = digits_packed (4 ^ w.qubits) w.letters (digits_below w.qubits w.letters h.word)
+
+-- words whose fields are the same are the same
+pub same_words : (v w : RotationWord) → IsShortWord v → IsShortWord w
+    → (nat_eq v.qubits w.qubits && (nat_eq (length v.letters) (length w.letters) && nat_eq (packed v.qubits v.letters) (packed w.qubits w.letters))) ≡ true → v ≡ w
+same_words v w a b e =
+    let h = (Decides-and _ _ (Decides-eqb v.qubits w.qubits) (Decides-and _ _ (Decides-eqb (length v.letters) (length w.letters)) (Decides-eqb (packed v.qubits v.letters) (packed w.qubits w.letters)))).0 e in
+    let letters : v.letters ≡ w.letters = sym (cut v a) ∙ ((λ i. digits (4 ^ h.0 i) (h.1.0 i) (h.1.1 i)) ∙ cut w b) in
+    λ i. record { qubits = h.0 i; letters = letters i }

@@ -1,23 +1,22 @@
 -- What is left of a target behind a front.
-use Rattle.std.proofs.Common.{◌≡◌, ◌≢◌, ℕ, true, ◌+◌, ◌^◌, ◌<◌, ◌≤◌, List, [], ◌∷◌, ◌++◌, Option, Some, None, length, slice_index_or, refl, ap, sym, ◌∙◌, subst, arith}
+use Rattle.std.proofs.Common.{◌≡◌, ℕ, true, ◌+◌, ◌^◌, ◌<◌, ◌≤◌, List, [], ◌∷◌, ◌++◌, Option, Some, None, refl, ap, sym, ◌∙◌, subst}
 use Rattle.ring_laws.specs.Matrix.{product, Agree}
 use Rattle.tc_ring.specs.Surds.{surds}
 use Rattle.channel_rep.specs.Cells.{ChannelGrid, scaled, table_of}
 use Rattle.channel_rep.specs.Tables.{ScaledTable, rotation_table, SameTable, IsCircuitChannel, built}
 use Rattle.channel_rep.specs.Words.{IsWord}
 use Rattle.channel_rep.proofs.Built.{same_table_sym, same_table_trans}
-use Rattle.coset_label.specs.Labels.{HasLeastExponent, Label, IsLabelOf}
+use Rattle.coset_label.specs.Labels.{Label, IsLabelOf}
 use Rattle.coset_label.specs.Words.{RotationWord}
-use Rattle.level_laws.specs.Levels.{IsLevel, IsFound, StandsIn, removed}
-use Rattle.level_laws.proofs.Exponents.{none_past}
+use Rattle.level_laws.specs.Levels.{StandsIn, removed}
+use Rattle.level_laws.proofs.Exponents.{past_level}
 use Rattle.level_laws.proofs.Follow.{off_circuit}
-use Rattle.meet_laws.proofs.Meeting.{meets_in_coset}
-use Rattle.level_laws.proofs.Positions.{even_front}
 use Rattle.level_laws.proofs.Finding.{found_of_same}
 use Rattle.level_laws.proofs.Removed.{removed_step}
 use Rattle.level_store.specs.declared.level.Level.{Level}
 use Rattle.level_store.specs.InOrder.{qubits_of, len_of, IsLevelOf}
 use Rattle.level_store.specs.Stored.{Finds, FindsLabel}
+use Rattle.meet_middle.specs.Remainders.{IsLeastExponentOf}
 use Rattle.meet_middle.proofs.Removing.{remove_letter}
 
 -- a look tells of each table of the same value
@@ -30,10 +29,6 @@ pub rest_circuit : (n : ℕ) → 0 < n → n ≤ 3 → (rest target : ScaledTabl
 rest_circuit n some few rest target word good same circuit =
     let off = off_circuit n some few target word good circuit in
     (off.0, off.1, same_table_trans n rest (removed n target word) (built n off.0) same off.2)
-
--- a word of a level is a word
-pub level_word_is : (n : ℕ) → 0 < n → n ≤ 3 → (h : ℕ) (words : List (List ℕ)) → IsLevel n h words → (i : ℕ) → i < length words → IsWord n (slice_index_or words i [])
-level_word_is n some few h words level i l = (even_front n h words level i l).word
 
 -- one letter more taken off, without the channel's own work
 pub one_letter_off : (n : ℕ) (kept target : ScaledTable) (word : List ℕ) (p : ℕ) → SameTable n kept (removed n target word) → SameTable n (removed n kept (p ∷ [])) (removed n target (word ++ p ∷ []))
@@ -60,12 +55,13 @@ word_off n target copied off rest word q is q1 table value =
     let whole : SameTable n (scaled off) (removed n (scaled target) word) = subst (λ (c : ChannelGrid). SameTable n (scaled off) (removed n (scaled c) word)) is after in
     same_table_trans n (scaled rest) (scaled off) _ (subst (λ (k : ℕ). SameTable k (scaled rest) (scaled off)) (q1 ∙ at) value) whole
 
--- where the least exponent passes a level's number of letters by more than one, no letter taken off brings the rest there
-pub past_letter : (n : ℕ) → 0 < n → n ≤ 3 → (kept : ScaledTable) → HasLeastExponent n kept → (half p : ℕ) → (p < 4 ^ n) × (p ≢ 0) → half + 1 < kept.exponent
+-- where the least exponent without a letter passes a level's number of letters, the rest isn't in that level
+pub past_letter : (n half p exponent : ℕ) (kept : ScaledTable) → IsLeastExponentOf n (removed n kept (p ∷ [])) exponent → half < exponent
     → (target : ScaledTable) (word : List ℕ) → SameTable n kept (removed n target word) → StandsIn n half (removed n target (word ++ p ∷ [])) → ⊥
-past_letter n some few kept least half p good l target word same found =
-    let here : IsFound n half (removed n kept (p ∷ [])) found.0 = found_of_same n half _ _ found.0 (same_table_sym n _ _ (one_letter_off n kept target word p same)) found.1 in
-    none_past n kept least (half + 1) l (p ∷ found.0) (meets_in_coset n some few kept half (p ∷ []) found.0 (good, tt) here) (omega (arith, here.level.letters))
+past_letter n half p exponent kept least l target word same found =
+    let off = same_table_trans n _ _ _ least.same (one_letter_off n kept target word p same) in
+    let here = found_of_same n half _ _ found.0 (same_table_sym n _ _ off) found.1 in
+    past_level n least.reduced least.least half (subst (λ k. half < k) (sym least.is) l) (found.0, here)
 
 -- a look into a level, by the level's own numbers
 pub finds_named : (l : Level) (n k : ℕ) → IsLevelOf n k l → (label : Label) (r : Option RotationWord) → FindsLabel (qubits_of l) (len_of l) label r → (m : ScaledTable) → IsCircuitChannel n m → IsLabelOf n m label

@@ -2,3 +2,4 @@ pub mod Answers
 pub mod Fronts
 pub mod Halves
 pub mod Kept
+pub mod Remainders

@@ -1,10 +1,12 @@
 // The fronts of a total.
-ghost use Rattle.std.specs.Prelude.{◌≡◌, ◌≢◌, ◌-◌, ◌^◌, ◌<◌, ◌≤◌, Bool, IfSome};
+ghost use Rattle.std.specs.Prelude.{◌≡◌, ◌≢◌, ◌-◌, ◌^◌, ◌<◌, ◌≤◌, ◌++◌, IfSome};
+ghost use Rattle.channel_rep.specs.Words.{IsWord};
 ghost use Rattle.level_store.specs.InOrder.{IsLevelOf};
 ghost use Rattle.level_store.specs.Stored.{letters_in};
-ghost use Rattle.meet_middle.specs.Fronts.{fronts_of, number_of, middle_of};
+ghost use Rattle.meet_middle.specs.Fronts.{front_of, fronts_of, number_of, middle_of};
 ghost use Rattle.meet_middle.specs.Halves.{middle_letters};
 
+use coset_label::Word;
 use level_store::Level;
 use pauli_basis::Pauli;
 
@@ -38,6 +40,49 @@ pub fn front(n: u8, odd: bool, position: u64) -> (u64, Option<Pauli>)
         (position / letters, Some(middle))
     } else {
         (position, None)
+    }
+}
+
+/// A word without its last letter, and that letter; the empty word has none.
+fn split_last(word: Word) -> (Word, Option<Pauli>)
+    ensures qubits { result.0.qubits ≡ word.qubits }
+    ensures last { IfSome result.1 (λ p. (p.qubits ≡ word.qubits) × (p.code < 4 ^ word.qubits) × (p.code ≢ 0)) }
+    ensures letters { result.0.letters ++ middle_letters result.1 ≡ word.letters }
+{
+    if word.len() == 0 {
+        return (word, None);
+    }
+    let end = word.len() - 1;
+    let mut before = Word::empty(word.qubits());
+    for i in 0..end {
+        before = before.push_back(word.letter(i));
+    }
+    (before, Some(word.letter(end)))
+}
+
+/// The front of a position as a prefix, which neighbours mostly share, and its last letter: the letter behind the word, or the
+/// word's own last one.
+pub fn split_front(
+    level: &Level,
+    n: u8,
+    half: u8,
+    odd: bool,
+    position: u64,
+) -> (Word, Option<Pauli>)
+    requires some { 0 < n }
+    requires few { n ≤ 3 }
+    requires number { IsLevelOf n half level.now }
+    requires below { position < fronts_of n (letters_in level.now) odd }
+    ensures qubits { result.0.qubits ≡ n }
+    ensures word { IsWord n result.0.letters }
+    ensures last { IfSome result.1 (λ p. (p.qubits ≡ n) × (p.code < 4 ^ n) × (p.code ≢ 0)) }
+    ensures front { result.0.letters ++ middle_letters result.1 ≡ front_of n (letters_in level.now) odd position }
+{
+    let (number, middle) = front(n, odd, position);
+    let word = level.word(number);
+    match middle {
+        Some(letter) => (word, Some(letter)),
+        None => split_last(word),
     }
 }
 

@@ -11,6 +11,7 @@ mod answer;
 mod fronts;
 mod least;
 mod probe;
+mod remainder;
 mod rests;
 mod search;
 mod word2;

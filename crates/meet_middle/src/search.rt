@@ -1,5 +1,5 @@
 // The first front of a total that meets its level, by workers.
-ghost use Rattle.std.specs.Prelude.{◌≡◌, ℕ, ◌+◌, ◌<◌, ◌≤◌, true, false, List, ◌++◌, All, IfOk, IfSome, IfNone, map};
+ghost use Rattle.std.specs.Prelude.{◌≡◌, ℕ, ◌+◌, ◌<◌, ◌≤◌, true, false, ◌++◌, All, IfOk, IfSome, IfNone, map};
 ghost use Rattle.channel_rep.specs.Cells.{scaled};
 ghost use Rattle.channel_rep.specs.Tables.{ScaledTable};
 ghost use Rattle.steal_sweep.specs.Searches.{IsLeastHit};
@@ -40,15 +40,15 @@ impl<'a, const N: u8> Test<Probe<N>> for Fronts<'a, N> {
     ghost use Rattle.meet_middle.specs.Fronts.{fronts_of, front_meets};
     ghost use Rattle.meet_middle.specs.Kept.{IsAsked, keeps};
 
-    ghost fits = { λ t l. keeps N (letters_in t.level.now) (scaled t.target.now) l.number l.kept };
+    ghost fits = { λ t l. keeps N (scaled t.target.now) l.prefix l.kept };
 
     ghost needs = { λ t. IsAsked N t.half t.target.now t.level.now };
 
     ghost may = { λ t l p. nat_lt p (fronts_of N (letters_in t.level.now) t.odd)
-        && (keeps N (letters_in t.level.now) (scaled t.target.now) l.number l.kept && ⟦<Probe<N> as Local>⟧.fit l) };
+        && (keeps N (scaled t.target.now) l.prefix l.kept && ⟦<Probe<N> as Local>⟧.fit l) };
 
     ghost gives = { λ t l p r l'. (r ≡ front_meets N (letters_in t.level.now) t.odd (scaled t.target.now) p)
-        × (keeps N (letters_in t.level.now) (scaled t.target.now) l'.number l'.kept ≡ true)
+        × (keeps N (scaled t.target.now) l'.prefix l'.kept ≡ true)
         × (⟦<Probe<N> as Local>⟧.fit l' ≡ true) };
 
     ghost truth = { λ t p. front_meets N (letters_in t.level.now) t.odd (scaled t.target.now) p };
@@ -68,8 +68,8 @@ fn seekers<const N: u8>(
     requires qubits { (0 < N) × (N ≤ 3) }
     ensures seats { IfOk result (λ v. map (λ s. s.seat) v.items ≡ seats.items) }
     ensures fit { IfOk result (λ v. All (λ s. ⟦<Probe<N> as Local>⟧.fit s.local ≡ true) v.items) }
-    ensures keeps { IfOk result (λ v. (words : List (List ℕ)) (target : ScaledTable)
-        → All (λ s. keeps N words target s.local.number s.local.kept ≡ true) v.items) }
+    ensures keeps { IfOk result (λ v. (target : ScaledTable)
+        → All (λ s. keeps N target s.local.prefix s.local.kept ≡ true) v.items) }
 {
     let mut all = Vec::new(alloc);
     for seat in seats {
@@ -123,7 +123,7 @@ fn spell<const N: u8>(
     position: u64,
 ) -> Word2
     requires fit { ⟦<Probe<N> as Local>⟧.fit probe.old ≡ true }
-    requires keeps { keeps N (letters_in level.now) (scaled target.now) probe.old.number probe.old.kept ≡ true }
+    requires keeps { keeps N (scaled target.now) probe.old.prefix probe.old.kept ≡ true }
     requires asked { IsAsked N half target.now level.now }
     requires below { position < fronts_of N (letters_in level.now) odd }
     requires hit { front_meets N (letters_in level.now) odd (scaled target.now) position ≡ true }

@@ -21,13 +21,13 @@ held_parities n p m words commutes held room low commuting = record {
 }
 
 -- tell the divisions
-pub divisions_told : (n p code count : ℕ) (m : SurdTable) (words : ParityWords) (wholes parts : List ℕ) (commutes : List Bool) → HoldsParities n m words → IsParityRoom words
+pub divisions_told : (n p code count : ℕ) (inverse : Bool) (m : SurdTable) (words : ParityWords) (wholes parts : List ℕ) (commutes : List Bool) → HoldsParities n m words → IsParityRoom words
     → wholes ≡ words.wholes → parts ≡ words.parts → code ≡ p → code < 4 ^ n → ((row : ℕ) → row < 4 ^ n → slice_index_or commutes row false ≡ commute n p row)
     → ((n : ℕ) (inverse : Bool) (m : SurdTable) → AreParities n code m wholes parts commutes → IsDivisionCount n (rotated n inverse code m) count)
-    → IsDivisionCount n (rotated n false p m) count
-divisions_told n p code count m words wholes parts commutes held room w s e low commuting all =
-    subst (λ z. IsDivisionCount n (rotated n false z m) count) e
-    (all n false m
+    → IsDivisionCount n (rotated n inverse p m) count
+divisions_told n p code count inverse m words wholes parts commutes held room w s e low commuting all =
+    subst (λ z. IsDivisionCount n (rotated n inverse z m) count) e
+    (all n inverse m
     (subst (λ z. AreParities n code m z parts commutes) (sym w)
     (subst (λ z. AreParities n code m words.wholes z commutes) (sym s)
     (held_parities n code m words commutes held room low (λ row l. commuting row l ∙ ap (λ z. commute n z row) (sym e))))))

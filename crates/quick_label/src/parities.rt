@@ -1,5 +1,5 @@
 // The parities of a channel's numbers, and how often a letter's rotation can be divided.
-ghost use Rattle.std.specs.Prelude.{◌≡◌, ℕ, ◌+◌, ◌^◌, ◌<◌, ◌≤◌, IfOk, false, length, slice_index_or};
+ghost use Rattle.std.specs.Prelude.{◌≡◌, ℕ, ◌+◌, ◌^◌, ◌<◌, ◌≤◌, Bool, IfOk, false, length, slice_index_or};
 ghost use Rattle.std.specs.Int.{bit_at};
 ghost use Rattle.pauli_basis.specs.Products.{commute};
 ghost use Rattle.channel_rep.specs.Cells.{cell_of, table_of};
@@ -102,14 +102,15 @@ impl Parities {
         write_parities(channel, &mut self.wholes, &mut self.parts);
     }
 
-    /// How often the product of the rotation by `p` and the table can be divided by √2: 0, 1, or 2 for at least twice.
+    /// How often the product of the rotation by `p`, or of its inverse, and the table can be divided by √2: 0, 1, or 2 for at
+    /// least twice.
     /// `commuting` says which rows commute with `p`.
     pub fn divisions(&self, commuting: &[bool], p: Pauli) -> u8
         requires same { p.qubits ≡ self.now.qubits }
         requires long { length commuting.now ≡ 4 ^ self.now.qubits }
-        ensures { (n : ℕ) (m : SurdTable) → HoldsParities n m self.now
+        ensures { (n : ℕ) (inverse : Bool) (m : SurdTable) → HoldsParities n m self.now
             → ((row : ℕ) → row < 4 ^ n → slice_index_or commuting.now row false ≡ commute n p.code row)
-            → IsDivisionCount n (rotated n false p.code m) result }
+            → IsDivisionCount n (rotated n inverse p.code m) result }
     {
         word_laws::divisions(&self.wholes, &self.parts, commuting, p.code() as usize)
     }

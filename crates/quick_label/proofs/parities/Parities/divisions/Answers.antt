@@ -12,7 +12,7 @@ divisions-requires-clause-closed c row l =
     subst (λ z. product_code c.code.result row < z) (sym long) (product_code-lt c.args.p.qubits c.code.result row c.code.ensures.below (subst (λ z. row < z) long l))
 
 pub returns : goal.returns
-returns c n m held commuting =
-    divisions_told n c.args.p.code c.code.result c.divisions.result m c.args.self.now _ _ _ held (subst IsParityRoom c.self.view_is c.self.invariant)
+returns c n inverse m held commuting =
+    divisions_told n c.args.p.code c.code.result c.divisions.result inverse m c.args.self.now _ _ _ held (subst IsParityRoom c.self.view_is c.self.invariant)
     (c.deref.ensures.value ∙ ap (λ (w : ParityWords). w.wholes) c.self.view_is) (c.deref-2.ensures.value ∙ ap (λ (w : ParityWords). w.parts) c.self.view_is) c.code.ensures.value
     (subst (λ q. c.code.result < 4 ^ q) (c.requires.same ∙ held.qubits) c.code.ensures.below) commuting c.divisions.ensures

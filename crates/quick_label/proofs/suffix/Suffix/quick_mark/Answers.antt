@@ -1,4 +1,4 @@
-use Rattle.std.proofs.Common.{◌≡◌, ℕ, ◌+◌, ◌-◌, ◌*◌, ◌^◌, ◌<◌, ◌≤◌, ◌∷◌, length, slice_index, slice_index_or, refl, ap, sym, ◌∙◌, subst, arith}
+use Rattle.std.proofs.Common.{◌≡◌, ℕ, false, ◌+◌, ◌-◌, ◌*◌, ◌^◌, ◌<◌, ◌≤◌, ◌∷◌, length, slice_index, slice_index_or, refl, ap, sym, ◌∙◌, subst, arith}
 use Rattle.std.specs.Prelude.{ℤ, nat_lt, if◌then◌else◌}
 use Rattle.std.proofs.lemmas.List.{with_items_is}
 use Rattle.pauli_basis.specs.Products.{commute, anti_sign}
@@ -27,7 +27,7 @@ overflow_sub-exponent c =
     let own : c.args.letter.qubits ≡ n = c.requires.same ∙ ap (λ (w : RotationWord). w.qubits) (sym c.self.view_is) in
     let code = c.code-p.ensures.value in
     let lp : c.args.letter.code < 4 ^ n = subst (λ k. c.args.letter.code < 4 ^ k) own (subst (λ k. k < 4 ^ c.args.letter.qubits) code c.code-p.ensures.below) in
-    let count = c.divisions-divisions.ensures n (table_of c.self.inside.channel) inv.parities (letter_rows commute n _ c.args.letter.code c.code-p.result _ inv.constants.turns code c.commuting-commuting.ensures.value) in
+    let count = c.divisions-divisions.ensures n false (table_of c.self.inside.channel) inv.parities (letter_rows commute n _ c.args.letter.code c.code-p.result _ inv.constants.turns code c.commuting-commuting.ensures.value) in
     let low = divisions_fit inv c.args.letter.code lp c.requires.other c.divisions-divisions.result count in
     subst (λ k. c.divisions-divisions.result ≤ k + 1) (sym c.exponent.ensures.value) low
 
@@ -71,7 +71,7 @@ returns-clause-mark c =
     let own : c.args.letter.qubits ≡ n = c.requires.same ∙ ap (λ (w : RotationWord). w.qubits) (sym c.self.view_is) in
     let code = c.code-p.ensures.value in
     let lp : p < 4 ^ n = subst (λ k. p < 4 ^ k) own (subst (λ k. k < 4 ^ c.args.letter.qubits) code c.code-p.ensures.below) in
-    let count = c.divisions-divisions.ensures n table inv.parities (letter_rows commute n _ p c.code-p.result _ inv.constants.turns code c.commuting-commuting.ensures.value) in
+    let count = c.divisions-divisions.ensures n false table inv.parities (letter_rows commute n _ p c.code-p.result _ inv.constants.turns code c.commuting-commuting.ensures.value) in
     let q = c.qubits.ensures.value in
     let f = c.weigh_front.new.front in
     let room : IsFrontRoom n f = subst (λ j. IsFrontRoom j f) q c.weigh_front.ensures.room in
