@@ -29,7 +29,7 @@ impl Hand {
         Ok(Hand {
             seat,
             label: Scratch::new(alloc, n)?,
-            room: Narrow::identity(alloc, n)?,
+            room: Narrow::new(alloc, n)?,
             suffix: Suffix::new(alloc, n)?,
         })
     }
