@@ -1,4 +1,5 @@
--- Pairs of numbers in one list that become their difference and their sum.
+-- Pairs of numbers in one list that become their difference and their sum, as the rows of a table do under a rotation.
+-- Source: Gosset, Kliuchnikov, Mosca and Russo, An algorithm for the T-count, 2014, section 2.3.
 use Rattle.std.specs.Prelude.{◌≡◌, ℕ, ◌+◌, ◌<◌, ◌≤◌, ◌⊎◌, ℤ, pos, neg_ℤ, ◌≤ℤ◌, ◌+ℤ◌, ◌-ℤ◌, List, length, FitsSigned, slice_index_or}
 use Rattle.std.specs.Int.{w16}
 use Rattle.std.specs.Simd.Lanes.{Each1, Each2}

@@ -1,4 +1,5 @@
 -- Cells a + b·√2 kept as two lists of numbers of sixteen bits: one of their whole parts, and one of their parts of √2.
+-- The layout is this program's own; that a column's norm bounds its numbers is Hardy and Wright, chapter XIV.
 use Rattle.std.specs.Prelude.{◌≡◌, ℕ, ◌*◌, ◌^◌, ◌≤◌, ℤ, List, length}
 use Rattle.std.specs.Simd.Lanes.{zip2}
 use Rattle.tc_ring.specs.declared.root2.Root2.{Root2}
