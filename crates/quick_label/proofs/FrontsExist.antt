@@ -1,8 +1,5 @@
 -- A letter before a word has a channel with the least exponent, of which the number of divisions tells, and a label.
 use Rattle.std.proofs.Common.{◌≡◌, ◌≢◌, ℕ, zero, suc, ◌+◌, ◌-◌, ◌*◌, ◌^◌, ◌<◌, ◌≤◌, Bool, true, false, true≢false, List, [], ◌∷◌, ◌++◌, slice_index_or, refl, ap, sym, ◌∙◌, subst, arith}
-use Rattle.std.specs.Int.Bits.{xor_self, xor_comm}
-use Rattle.pauli_basis.specs.Products.{product_code}
-use Rattle.pauli_basis.proofs.Products.{product_code-lt}
 use Rattle.tc_ring.specs.Surds.{surd_times}
 use Rattle.channel_rep.specs.Tables.{SurdTable, ScaledTable, by_rotation, stepped, SameTable, IsBuiltOf, IsCircuitChannel}
 use Rattle.channel_rep.specs.Rows.{rotated}
@@ -19,17 +16,13 @@ use Rattle.label_laws.specs.Fronts.{front_weights, halved}
 use Rattle.label_laws.specs.Totals.{column_power, placed_folds, tag_from}
 use Rattle.label_laws.proofs.Fronts.{front_tag}
 use Rattle.word_laws.specs.Divisions.{IsDivisionCount}
-use Rattle.word_laws.specs.Spans.{IsInSpan}
 use Rattle.word_laws.proofs.Exponents.{exponent_by_divisions}
 use Rattle.word_laws.proofs.Norms.{divisions_below}
-use Rattle.word_laws.proofs.Spans.{span-zero, span_closed, code_both}
-use Rattle.word_laws.proofs.Sparse.{sparse}
-use Rattle.quick_label.specs.Blocks.{in_block}
 use Rattle.quick_label.specs.Fronts.{IsFront}
-use Rattle.quick_label.specs.Laws.{SmallByNorm}
 use Rattle.quick_label.specs.Spans.{AreSpan}
-use Rattle.quick_label.specs.Tables.{SurdUpTo, IsPackable}
+use Rattle.quick_label.specs.Tables.{IsPackable}
 use Rattle.quick_label.specs.Weights.{before_letter}
+use Rattle.quick_label.proofs.PackableWords.{words_packable}
 use Rattle.quick_label.proofs.SortedColumns.{label_of_table}
 
 -- the channel b behind the letter, with its label
@@ -42,42 +35,6 @@ pub record HasFront (n : ℕ) (word : List ℕ) (p divisions : ℕ) (span : List
   pub is : IsLabelOf n b label
   pub packable : b.exponent ≤ 6 → IsPackable n span 8 5 b.table
   pub packable_small : b.exponent ≤ 5 → IsPackable n span 5 4 b.table
-
--- ---- the span's marks
-module _ (n : ℕ) (word : List ℕ) (span : List Bool) (are : AreSpan n word span) where
-  marked : (v : ℕ) → v < 4 ^ n → IsInSpan word v → slice_index_or span v false ≡ true
-  marked v l h = (are.tells v l).1 h
-
-  spanned : (v : ℕ) → v < 4 ^ n → slice_index_or span v false ≡ true → IsInSpan word v
-  spanned v l h = (are.tells v l).0 h
-
-  -- they mark a subspace
-  pub zero_marked : 0 < 4 ^ n → in_block span 0 0 ≡ true
-  zero_marked l = subst (λ v. slice_index_or span v false ≡ true) (sym (xor_self 0)) (marked 0 l (span-zero word))
-
-  pub closed_marks : (x y z : ℕ) → x < 4 ^ n → y < 4 ^ n → z < 4 ^ n → in_block span x y ≡ true → in_block span y z ≡ true → in_block span x z ≡ true
-  closed_marks x y z lx ly lz h g =
-      marked (product_code x z) (product_code-lt n x z lx lz)
-      (subst (IsInSpan word) (code_both y x z)
-      (span_closed word (product_code y x) (product_code y z)
-      (subst (IsInSpan word) (xor_comm x y) (spanned (product_code x y) (product_code-lt n x y lx ly) h))
-      (spanned (product_code y z) (product_code-lt n y z ly lz) g)))
-
-  -- what isn't marked isn't in the span
-  unmarked : (row column : ℕ) → row < 4 ^ n → column < 4 ^ n → in_block span column row ≡ false → IsInSpan word (product_code row column) → ⊥
-  unmarked row column lr lc e h =
-      true≢false (sym (marked (product_code column row) (product_code-lt n column row lc lr) (subst (IsInSpan word) (xor_comm row column) h)) ∙ e)
-
-  -- so a word's channel can be packed where its numbers are small
-  pub word_packable : 0 < 4 ^ n → IsWord n word → (m : ScaledTable) → IsBuiltOf n (word_steps word) m → (most_a most_b : ℕ)
-      → ((row column : ℕ) → row < 4 ^ n → column < 4 ^ n → SurdUpTo most_a most_b (m.table row column)) → IsPackable n span most_a most_b m.table
-  word_packable some is m built most_a most_b small = record {
-    long = are.long;
-    zero = zero_marked some;
-    closed = closed_marks;
-    sparse = λ row column lr lc e. sparse n word is m built row column lr lc (unmarked row column lr lc e);
-    small = small;
-  }
 
 -- ---- the channel
 module _ (n : ℕ) (some : 0 < n) (few : n ≤ 3) (word : List ℕ) (p : ℕ) (is : IsWord n (p ∷ word)) (a : ScaledTable) (built : IsBuiltOf n (word_steps word) a)
@@ -111,26 +68,21 @@ module _ (n : ℕ) (some : 0 < n) (few : n ≤ 3) (word : List ℕ) (p : ℕ) (i
   unfolding behind
   behind_least = (exponent_by_divisions n false p is.0.0 is.0.1 a behind same least divisions count).1 refl
 
-  behind_circuit : IsCircuitChannel n behind
-  behind_circuit = word_circuit n (p ∷ word) behind is behind_built
-
-  module _ (span : List Bool) (are : AreSpan n (p ∷ word) span) (small : SmallByNorm) where
-    some_codes : 0 < 4 ^ n
-    some_codes = omega (arith, is.0.0)
-
-    pub front_exists : HasFront n word p divisions span a
-    front_exists =
-        let l = label_of_table n behind behind_least in
-        record {
-          b = behind;
-          front = record { letter = is.0.0; same = same; few = count.few; exponent = behind_exponent };
-          circuit = behind_circuit;
-          built = behind_built;
-          label = l.0;
-          is = l.1;
-          packable = λ h. word_packable n (p ∷ word) span are some_codes is behind behind_built 8 5 (λ row column lr lc. (small n some few behind behind_circuit row column lr lc).0 h);
-          packable_small = λ h. word_packable n (p ∷ word) span are some_codes is behind behind_built 5 4 (λ row column lr lc. (small n some few behind behind_circuit row column lr lc).1 h);
-        }
+  -- with its label
+  pub front_exists : (span : List Bool) → AreSpan n (p ∷ word) span → HasFront n word p divisions span a
+  front_exists span are =
+      let l = label_of_table n behind behind_least in
+      let packable = words_packable n some few (p ∷ word) is span are behind behind_built in
+      record {
+        b = behind;
+        front = record { letter = is.0.0; same = same; few = count.few; exponent = behind_exponent };
+        circuit = word_circuit n (p ∷ word) behind is behind_built;
+        built = behind_built;
+        label = l.0;
+        is = l.1;
+        packable = packable.0;
+        packable_small = packable.1;
+      }
 
 -- ---- the tag
 -- the weights of the fold before a letter are those of any weights

@@ -11,11 +11,6 @@ use Rattle.label_laws.specs.Folds.{weighed, rotated_weights}
 use Rattle.label_laws.proofs.Folds.{weighed_rotation, whole_rotation, root2_out, weighed_once, weighed_twice}
 use Rattle.quick_label.specs.Weights.{before_letter, doubled}
 
--- sums of cells that agree
-weighed_agree : (size : ℕ) (w m m' : SurdTable) (column : ℕ) → ((row : ℕ) → row < size → m row column ≡ m' row column) → weighed size w m column ≡ weighed size w m' column
-unfolding product
-weighed_agree size w m m' column h = ap (λ (s : Surd). s.b) (sum_cong surds_laws size _ _ (λ k l. ap (surd_times (w 0 k)) (h k l)))
-
 -- one factor √2
 times_one : (x : Surd) → surd_times (root2_to 1) x ≡ surd_times root2_surd x
 times_one x = root2_to-suc 0 x ∙ ap (surd_times root2_surd) (root2_to-zero x)
@@ -25,18 +20,13 @@ module _ (n p : ℕ) (lp : p < 4 ^ n) (a b : ScaledTable) where
   abbrev turned : SurdTable
   turned = product surds (4 ^ n) (rotation_table n false p) a.table
 
-  -- √2 to the number of divisions, times the table behind, is the product
-  divided : SameTable n b (stepped n (by_rotation p) a) → (divisions : ℕ) → b.exponent + divisions ≡ a.exponent + 1
-      → (row column : ℕ) → row < 4 ^ n → column < 4 ^ n → surd_times (root2_to divisions) (b.table row column) ≡ turned row column
-  divided same divisions e row column l k =
-      let whole : b.exponent + divisions ≡ 1 + a.exponent = omega arith in
-      cancel_root2_power b.exponent _ _
-      (sym (root2_to-add b.exponent divisions (b.table row column)) ∙ ap (λ j. surd_times (root2_to j) (b.table row column)) whole ∙ same row column l k)
-
-  -- so the sums of the cells before are those of the cells behind, or twice those
+  -- the sums of the cells before are those of the cells behind, or twice those
   sum_is : (divisions : ℕ) → divisions ≤ 2 → (w : SurdTable) (c : ℕ) → ((row : ℕ) → row < 4 ^ n → surd_times (root2_to divisions) (b.table row c) ≡ turned row c)
       → weighed (4 ^ n) (before_letter n p divisions w) a.table c ≡ doubled divisions (weighed (4 ^ n) w b.table c)
-  sum_is zero few w c h = sym (weighed_rotation n false p lp w a.table c) ∙ weighed_agree (4 ^ n) w turned b.table c (λ r k. sym (h r k) ∙ root2_to-zero (b.table r c))
+  unfolding product
+  sum_is zero few w c h =
+      sym (weighed_rotation n false p lp w a.table c)
+      ∙ ap (λ (s : Surd). s.b) (sum_cong surds_laws (4 ^ n) _ _ (λ r k. ap (surd_times (w 0 r)) (sym (h r k) ∙ root2_to-zero (b.table r c))))
   sum_is (suc zero) few w c h =
       ap (λ (s : Surd). s.b)
       (root2_out (4 ^ n) (rotated_weights n false p w) a.table c ∙ ap (surd_times root2_surd) (sym (whole_rotation n false p lp w a.table c)) ∙ sym (root2_out (4 ^ n) w turned c))
@@ -48,4 +38,8 @@ pub sums_before : (n p : ℕ) → p < 4 ^ n → (a b : ScaledTable) → SameTabl
     → (divisions : ℕ) → divisions ≤ 2 → b.exponent + divisions ≡ a.exponent + 1 → (w : SurdTable) (column : ℕ) → column < 4 ^ n
     → weighed (4 ^ n) (before_letter n p divisions w) a.table column ≡ doubled divisions (weighed (4 ^ n) w b.table column)
 sums_before n p lp a b same divisions few e w column l =
-    sum_is n p lp a b divisions few w column (λ row k. divided n p lp a b same divisions e row column k l)
+    sum_is n p lp a b divisions few w column
+    (λ row k.
+    let whole : b.exponent + divisions ≡ 1 + a.exponent = omega arith in
+    cancel_root2_power b.exponent _ _
+    (sym (root2_to-add b.exponent divisions (b.table row column)) ∙ ap (λ j. surd_times (root2_to j) (b.table row column)) whole ∙ same row column k l))

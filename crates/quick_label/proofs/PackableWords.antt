@@ -25,9 +25,13 @@ module _ (n : ℕ) (word : List ℕ) (span : List Bool) (are : AreSpan n word sp
   marks : (x y : ℕ) → x < 4 ^ n → y < 4 ^ n → IsInSpan word (product_code x y) → in_block span x y ≡ true
   marks x y lx ly h = (are.tells (product_code x y) (product_code-lt n x y lx ly)).1 h
 
-  -- a block holds what is in one with its own
-  closed : (x y z : ℕ) → x < 4 ^ n → y < 4 ^ n → z < 4 ^ n → in_block span x y ≡ true → in_block span y z ≡ true → in_block span x z ≡ true
-  closed x y z lx ly lz e d =
+  -- they mark a subspace: 0 is in it
+  pub zero_marked : 0 < 4 ^ n → in_block span 0 0 ≡ true
+  zero_marked some = marks 0 0 some some (span-zero word)
+
+  -- and a block holds what is in one with its own
+  pub closed_marks : (x y z : ℕ) → x < 4 ^ n → y < 4 ^ n → z < 4 ^ n → in_block span x y ≡ true → in_block span y z ≡ true → in_block span x z ≡ true
+  closed_marks x y z lx ly lz e d =
       marks x z lx lz
       (subst (IsInSpan word) (code_both y x z) (span_closed word (product_code y x) (product_code y z) (marked y x ly lx (in_block_swap span y x ∙ e)) (marked y z ly lz d)))
 
@@ -44,8 +48,8 @@ words_packable n some few word is span are m built = (
     packable : (most_a most_b : ℕ) → ((row column : ℕ) → row < 4 ^ n → column < 4 ^ n → SurdUpTo most_a most_b (m.table row column)) → IsPackable n span most_a most_b m.table
     packable most_a most_b numbers = record {
       long = are.long;
-      zero = marks n word span are 0 0 (codes_some n) (codes_some n) (span-zero word);
-      closed = closed n word span are;
+      zero = zero_marked n word span are (codes_some n);
+      closed = closed_marks n word span are;
       sparse = λ row column lr lc out. sparse n word is m built row column lr lc
           (λ h. let e = in_block_swap span column row ∙ marks n word span are row column lr lc h in cc);
       small = numbers;

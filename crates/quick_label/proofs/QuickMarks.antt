@@ -30,28 +30,15 @@ use Rattle.quick_label.specs.Spans.{AreSpan}
 use Rattle.quick_label.specs.Tables.{IsPackable, IsLeadRow}
 use Rattle.quick_label.specs.Weights.{before_letter, doubled}
 use Rattle.quick_label.proofs.DigitOrder.{number_sign}
+use Rattle.quick_label.proofs.FrontNumbers.{number_before}
 use Rattle.quick_label.proofs.FrontsExist.{HasFront, front_exists, tag_of_front}
-use Rattle.quick_label.proofs.Halves.{number_is_sums, halves_below}
 use Rattle.quick_label.proofs.Leads.{number_lead}
-use Rattle.quick_label.proofs.Letters.{sums_before}
-use Rattle.quick_label.proofs.SmallNumbers.{small_numbers}
 
 -- ---- halves
-divided : (d : ℕ) → nat_lt 0 (suc d) ≡ true
-divided d = lt-ltb 0 (suc d) (omega arith)
-
--- doubled halves fit where the halves are small enough
-doubled_fits : (d : ℕ) (z : ℤ) → (nat_lt 0 d ≡ true → nat_abs z < 2 ^ 62) → nat_abs z < 2 ^ 63 → nat_abs (doubled d z) < 2 ^ 63
-doubled_fits zero z half whole = whole
-doubled_fits (suc d) z half whole = let small = half (divided d) in omega (arith, ints)
-
-twice_sum : (h l p : ℤ) → (pos 2 *ℤ h) *ℤ p +ℤ pos 2 *ℤ l ≡ pos 2 *ℤ (h *ℤ p +ℤ l)
-twice_sum h l p = ring integers_laws (h ∷ l ∷ p ∷ []) (search reads depth 30 parts 0 fits 10000) tt
-
--- and make the number, or twice the number
-doubled_sum : (d : ℕ) (h l p z : ℤ) → z ≡ h *ℤ p +ℤ l → doubled d h *ℤ p +ℤ doubled d l ≡ (if nat_lt 0 d then pos 2 *ℤ z else z)
-doubled_sum zero h l p z e = sym e
-doubled_sum (suc d) h l p z e = twice_sum h l p ∙ ap (λ x. pos 2 *ℤ x) (sym e) ∙ sym (cond-true (nat_lt 0 (suc d)) (pos 2 *ℤ z) z (divided d))
+-- what is doubled where there is a division
+if_divided : (d : ℕ) (z : ℤ) → doubled d z ≡ (if nat_lt 0 d then pos 2 *ℤ z else z)
+if_divided zero z = refl
+if_divided (suc d) z = sym (cond-true (nat_lt 0 (suc d)) (pos 2 *ℤ z) z (lt-ltb 0 (suc d) (omega arith)))
 
 module _ (n p divisions : ℕ) (a b : ScaledTable) (front : IsFront n p divisions a b) (span : List Bool) (packable : IsPackable n span 8 5 b.table)
     (small : nat_lt 0 divisions ≡ true → IsPackable n span 5 4 b.table) (blocks : HasSmallBlocks (4 ^ n) span) where
@@ -61,27 +48,17 @@ module _ (n p divisions : ℕ) (a b : ScaledTable) (front : IsFront n p division
   abbrev pub low_before : ℕ → ℤ
   low_before column = weighed (4 ^ n) (before_letter n p divisions (low_weights (4 ^ n) span)) a.table column
 
-  -- sums before the letter are those behind it, doubled where it is divided
-  behind : (w : SurdTable) (column : ℕ) → column < 4 ^ n → weighed (4 ^ n) (before_letter n p divisions w) a.table column ≡ doubled divisions (weighed (4 ^ n) w b.table column)
-  behind = sums_before n p front.letter a b front.same divisions front.few front.exponent
-
-  -- so they make the numbers
+  -- the sums before the letter make the numbers behind it
   pub halves_of_front : (folds highs lows : List ℕ) → AreFrontSums n p divisions span a.table folds highs lows
       → AreHalves (4 ^ n) highs lows (nat_lt 0 divisions) high_before low_before (column_number (4 ^ n) span b.table)
   halves_of_front folds highs lows sums column l =
-      let high = weighed (4 ^ n) (high_weights (4 ^ n) span) b.table column in
-      let low = weighed (4 ^ n) (low_weights (4 ^ n) span) b.table column in
-      let high_is = behind (high_weights (4 ^ n) span) column l in
-      let low_is = behind (low_weights (4 ^ n) span) column l in
-      let rows = blocks.rows column l in
-      let below = halves_below n span 8 5 b.table packable column l (2 ^ 63) (omega arith) rows in
-      let half = λ (e : nat_lt 0 divisions ≡ true). halves_below n span 5 4 b.table (small e) column l (2 ^ 62) (omega arith) rows in
+      let number = number_before n p front.letter a b front.same divisions front.few front.exponent span packable (λ some. small (lt-ltb 0 divisions some)) column l (blocks.rows column l) in
       record {
         is_high = sums.high_sums column l;
         is_low = sums.low_sums column l;
-        high_fits = subst (λ z. nat_abs z < 2 ^ 63) (sym high_is) (doubled_fits divisions high (λ e. (half e).0) below.0);
-        low_fits = subst (λ z. nat_abs z < 2 ^ 63) (sym low_is) (doubled_fits divisions low (λ e. (half e).1) below.1);
-        sum = (λ i. high_is i *ℤ pos (2 ^ 64) +ℤ low_is i) ∙ doubled_sum divisions high low (pos (2 ^ 64)) _ (number_is_sums n span 8 5 b.table packable column l);
+        high_fits = number.0;
+        low_fits = number.1;
+        sum = number.2 ∙ if_divided divisions (column_number (4 ^ n) span b.table column);
       }
 
 -- ---- leads
@@ -145,7 +122,7 @@ module _ (n : ℕ) (some : 0 < n) (few : n ≤ 3) (word : List ℕ) (p : ℕ) (i
     (least : HasLeastExponent n a) (divisions : ℕ) (count : IsDivisionCount n (rotated n false p a.table) divisions) (span : List Bool) (are : AreSpan n (p ∷ word) span)
     (low : a.exponent + 1 - divisions ≤ (if nat_lt 0 divisions then 5 else 6)) (blocks : HasSmallBlocks (4 ^ n) span) where
   front : HasFront n word p divisions span a
-  front = front_exists n some few word p is a built least divisions count span are (λ n some few m circuit row column lr lc. small_numbers n some few m circuit row column lr lc)
+  front = front_exists n some few word p is a built least divisions count span are
 
   b : ScaledTable
   b = front.b

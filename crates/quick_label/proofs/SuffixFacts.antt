@@ -9,7 +9,7 @@ use Rattle.word_laws.proofs.Norms.{divisions_below}
 use Rattle.quick_label.specs.Rooms.{MarksSubspace}
 use Rattle.quick_label.specs.Spans.{AreSpan}
 use Rattle.quick_label.specs.Suffixes.{SuffixParts, IsSuffix}
-use Rattle.quick_label.proofs.FrontsExist.{zero_marked, closed_marks}
+use Rattle.quick_label.proofs.PackableWords.{zero_marked, closed_marks}
 
 -- flags of a letter's rows, by equal numbers of qubits and equal codes
 pub letter_rows : (f : ℕ → ℕ → ℕ → Bool) (n k p code : ℕ) (flags : List Bool) → k ≡ n → code ≡ p

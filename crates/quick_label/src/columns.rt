@@ -6,19 +6,11 @@ ghost use Rattle.channel_rep.specs.Cells.{cell_of, table_of};
 ghost use Rattle.quick_label.specs.Columns.{StoredColumns, IsColumnRoom, RowsBelow, CellsFit};
 ghost use Rattle.quick_label.specs.ColumnParts.{IsPart, IsKeptTo};
 
+use crate::spans::codes;
 use channel_rep::Channel;
 use std::alloc::{AllocError, Global};
 use std::marker::Model;
 use tc_ring::Root2;
-
-/// How many columns the channel of an operator on n qubits has, 4^n, and as many rows.
-pub fn columns_of(n: u8) -> usize
-    requires { n ≤ 3 }
-    ensures value { result ≡ 4 ^ n }
-    ensures few { result ≤ 64 }
-{
-    1 << (2 * n)
-}
 
 /// Whether a cell is 0.
 fn is_zero(cell: Root2) -> bool
@@ -112,7 +104,7 @@ impl Columns {
         requires { n ≤ 3 }
         ensures { IfOk result (λ columns. columns.size ≡ 4 ^ n) }
     {
-        let size = columns_of(n);
+        let size = codes(n);
         let starts = vec![in alloc; 0u16; size + 1]?;
         let rows = vec![in alloc; 0u8; size * size]?;
         let cells = vec![in alloc; Root2 { a: 0, b: 0 }; size * size]?;

@@ -5,32 +5,34 @@ ghost use Rattle.quick_label.specs.Blocks.{block_rows};
 ghost use Rattle.quick_label.specs.FrontRooms.{IsFrontRoom, AreHalves, AreLedBy};
 ghost use Rattle.quick_label.specs.Rooms.{AreBlocks};
 
+use crate::blocks::Blocks;
+use crate::numbers::{lead_of, number_of};
 use crate::spans::codes;
-use crate::{Blocks, Weights, lead_of, number_of};
+use crate::weights::Weights;
 use std::alloc::{AllocError, Global};
 
 /// Room for what a letter before a word makes.
 #[derive(Drop)]
-pub(crate) struct Front {
+pub struct Front {
     /// The span of the letter and the word.
-    pub(crate) span: Vec<bool>,
-    pub(crate) blocks: Blocks,
+    pub span: Vec<bool>,
+    pub blocks: Blocks,
     /// Weights behind the letter, and before it.
-    pub(crate) behind: Weights,
-    pub(crate) before: Weights,
+    pub behind: Weights,
+    pub before: Weights,
     /// The sums of the word's columns by the weights of the fold, of the high digits and of the low ones.
-    pub(crate) folds: Vec<u64>,
-    pub(crate) highs: Vec<u64>,
-    pub(crate) lows: Vec<u64>,
+    pub folds: Vec<u64>,
+    pub highs: Vec<u64>,
+    pub lows: Vec<u64>,
     /// The columns behind the letter: their numbers, their lead rows, and their places in the label.
-    pub(crate) numbers: Vec<i128>,
-    pub(crate) leads: Vec<u8>,
-    pub(crate) places: Vec<u8>,
+    pub numbers: Vec<i128>,
+    pub leads: Vec<u8>,
+    pub places: Vec<u8>,
 }
 
 impl Front {
     /// Room on n qubits.
-    pub(crate) fn new(alloc: Global, n: u8) -> Result<Front, AllocError>
+    pub fn new(alloc: Global, n: u8) -> Result<Front, AllocError>
         requires { n ≤ 3 }
         ensures { IfOk result (IsFrontRoom n) }
     {
@@ -51,7 +53,7 @@ impl Front {
 }
 
 /// Writes the number of each column from its halves, or from those of twice the number.
-pub(crate) fn number_columns(highs: &[u64], lows: &[u64], halve: bool, numbers: &mut [i128])
+pub fn number_columns(highs: &[u64], lows: &[u64], halve: bool, numbers: &mut [i128])
     requires highs { length highs.now ≡ length numbers.old }
     requires lows { length lows.now ≡ length numbers.old }
     ensures long { length numbers.new ≡ length numbers.old }
@@ -64,7 +66,7 @@ pub(crate) fn number_columns(highs: &[u64], lows: &[u64], halve: bool, numbers: 
 }
 
 /// Writes the lead row of each column, by its number. True only where no number is 0.
-pub(crate) fn find_leads(numbers: &[i128], blocks: &Blocks, leads: &mut [u8]) -> bool
+pub fn find_leads(numbers: &[i128], blocks: &Blocks, leads: &mut [u8]) -> bool
     requires numbers { length numbers.now ≡ blocks.now.size }
     requires leads { length leads.old ≡ blocks.now.size }
     ensures long { length leads.new ≡ length leads.old }

@@ -1,4 +1,8 @@
 //! Quick marks of words with one letter more before them.
+//!
+//! A `Suffix` keeps what the words that end in a word at hand share: its channel's columns without their zeros, the parities of its
+//! numbers and the span of its letters. From these the mark of a letter before it is made by sums over the columns, with no
+//! channel of the longer word and no label.
 #![tactic(auto)]
 
 mod blocks;
@@ -14,16 +18,7 @@ mod sums;
 mod turns;
 mod weights;
 
-pub use blocks::Blocks;
-pub use columns::Columns;
-pub use numbers::{lead_of, number_of};
-pub use parities::Parities;
-pub use places::{find_places, place_powers, placed_sum, tag_of_sum, top_power};
-pub use spans::{empty_span, widen};
 pub use suffix::Suffix;
-pub use sums::weigh_columns;
-pub use turns::Turns;
-pub use weights::Weights;
 
 #[cfg(test)]
 mod tests;

@@ -23,6 +23,3 @@ pub fn lead_of(rows: &[u8], number: i128) -> u8
     let behind = (bits / 8) as usize;
     if behind < rows.len() { rows[behind] } else { 0 }
 }
-
-#[cfg(test)]
-mod tests;

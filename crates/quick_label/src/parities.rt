@@ -9,7 +9,7 @@ ghost use Rattle.word_laws.specs.Divisions.{IsDivisionCount};
 ghost use Rattle.word_laws.specs.Parities.{parity};
 ghost use Rattle.quick_label.specs.ParityWords.{HoldsParities};
 
-use crate::columns::columns_of;
+use crate::spans::codes;
 use channel_rep::Channel;
 use pauli_basis::Pauli;
 use std::alloc::{AllocError, Global};
@@ -57,7 +57,7 @@ fn write_parities(channel: &Channel, wholes: &mut [u64], parts: &mut [u64])
     ensures parities { HoldsParities channel.now.qubits (table_of channel.now)
         (record { qubits = channel.now.qubits; wholes = wholes.new; parts = parts.new }) }
 {
-    for row in 0..columns_of(channel.qubits()) {
+    for row in 0..codes(channel.qubits()) {
         let (whole, part) = parities_of(channel.row(row));
         wholes[row] = whole;
         parts[row] = part;
@@ -88,7 +88,7 @@ impl Parities {
         requires { n ≤ 3 }
         ensures { IfOk result (λ parities. parities.qubits ≡ n) }
     {
-        let rows = columns_of(n);
+        let rows = codes(n);
         let wholes = vec![in alloc; 0u64; rows]?;
         let parts = vec![in alloc; 0u64; rows]?;
         Ok(Parities { n, wholes, parts })

@@ -12,10 +12,14 @@ ghost use Rattle.quick_label.specs.Rooms.{AreBlocks};
 ghost use Rattle.quick_label.specs.Spans.{AreSpan};
 ghost use Rattle.quick_label.specs.Weights.{before_letter, IsLetterOf};
 
+use crate::columns::Columns;
 use crate::front::{Front, find_leads, number_columns};
+use crate::parities::Parities;
 use crate::places::{find_places, place_powers, placed_sum, tag_of_sum, top_power};
-use crate::spans::codes;
-use crate::{Columns, Parities, Turns, Weights, empty_span, weigh_columns, widen};
+use crate::spans::{codes, empty_span, widen};
+use crate::sums::weigh_columns;
+use crate::turns::Turns;
+use crate::weights::Weights;
 use channel_rep::Channel;
 use coset_label::{Scratch, Word, channel_of_word, label_of_front};
 use coset_words::{Mark, mark_of};
@@ -232,7 +236,7 @@ impl Suffix {
     }
 
     /// The mark of the word with a letter before its first, or `None` where it has to be made the slow way.
-    fn quick_mark(&mut self, letter: Pauli) -> Option<Mark>
+    pub(crate) fn quick_mark(&mut self, letter: Pauli) -> Option<Mark>
         requires same { letter.qubits ≡ self.old.qubits }
         requires other { letter.code ≢ 0 }
         ensures word { self.new ≡ self.old }

@@ -1,4 +1,7 @@
-mod channels;
 mod columns;
+mod marks;
+mod numbers;
 mod parities;
+mod places;
 mod sums;
+mod words;

@@ -11,13 +11,13 @@ ghost use Rattle.quick_label.specs.Numbers.{high_weights, low_weights};
 ghost use Rattle.quick_label.specs.Rooms.{AreBlocks};
 ghost use Rattle.quick_label.specs.Weights.{before_letter};
 
-use crate::Blocks;
+use crate::blocks::Blocks;
 use crate::spans::codes;
 use std::alloc::{AllocError, Global};
 use std::marker::Model;
 
-/// The base of the tag's fold.
-const BASE: u64 = 1_000_003;
+/// The base of the polynomial that a tag is.
+pub const BASE: u64 = 1_000_003;
 
 /// How often a cell's whole part counts in its digit.
 const WHOLE: u64 = 11;

@@ -1,7 +1,7 @@
 ghost use Rattle.std.specs.Prelude.{◌≡◌};
 
-use super::channels::channel_of;
-use crate::Columns;
+use super::words::{channel_of, word};
+use crate::columns::Columns;
 use std::test::Fail;
 use tc_ring::Root2;
 
@@ -29,7 +29,7 @@ fn columns_have_these_cells(rt: HostRuntime) -> Result<(), Fail> {
     ];
     let mut columns = Columns::new(rt.alloc(), 1)?;
     for (codes, column, places, cells) in rows {
-        let channel = channel_of(rt.alloc(), 1, codes)?;
+        let channel = channel_of(rt.alloc(), word(1, codes)?)?;
         columns.take(&channel);
         assert_eq!(rt; columns.size(), 4);
         if column < 4 {

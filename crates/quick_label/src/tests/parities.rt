@@ -1,7 +1,7 @@
 ghost use Rattle.std.specs.Prelude.{◌≡◌, ◌^◌, ◌<◌, ◌≤◌, length};
 
-use super::channels::{channel_of, pauli};
-use crate::Parities;
+use super::words::{channel_of, pauli, word};
+use crate::parities::Parities;
 use pauli_basis::Pauli;
 use std::test::Fail;
 
@@ -31,7 +31,7 @@ fn letters_divide_so_often(rt: HostRuntime) -> Result<(), Fail> {
     ];
     let mut parities = Parities::new(rt.alloc(), 2)?;
     for (codes, letter, count) in rows {
-        let channel = channel_of(rt.alloc(), 2, codes)?;
+        let channel = channel_of(rt.alloc(), word(2, codes)?)?;
         let p = pauli(2, letter)?;
         parities.take(&channel);
         let found = parities.divisions(&commuting_with(&p)?, p);

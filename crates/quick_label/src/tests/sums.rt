@@ -1,7 +1,8 @@
 ghost use Rattle.std.specs.Prelude.{◌≡◌};
 
-use super::channels::channel_of;
-use crate::{Columns, weigh_columns};
+use super::words::{channel_of, word};
+use crate::columns::Columns;
+use crate::sums::weigh_columns;
 use std::test::Fail;
 
 /// 2^64 − 2.
@@ -21,7 +22,7 @@ fn columns_have_these_sums(rt: HostRuntime) -> Result<(), Fail> {
         ),
     ];
     let mut columns = Columns::new(rt.alloc(), 1)?;
-    let channel = channel_of(rt.alloc(), 1, &[3])?;
+    let channel = channel_of(rt.alloc(), word(1, &[3])?)?;
     columns.take(&channel);
     for (wholes, parts, expected) in rows {
         let mut sums = [0; 4];

@@ -1,4 +1,4 @@
-use crate::{lead_of, number_of};
+use crate::numbers::{lead_of, number_of};
 use std::test::Fail;
 
 #[test]

@@ -3,7 +3,7 @@ use Rattle.std.specs.Prelude.{◌||◌}
 use Rattle.pauli_basis.proofs.Small.{all_at3}
 use Rattle.quick_label.specs.Blocks.{in_block}
 use Rattle.quick_label.specs.Rooms.{MarksSubspace, AreBlocks}
-use Rattle.quick_label.proofs.places.tests.later_leads_and_lesser_numbers_come_first.Goals as goal
+use Rattle.quick_label.proofs.tests.places.later_leads_and_lesser_numbers_come_first.Goals as goal
 
 -- the span of Z on one qubit
 abbrev span : List Bool

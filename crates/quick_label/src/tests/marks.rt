@@ -1,0 +1,196 @@
+ghost use Rattle.std.specs.Prelude.{◌≡◌, ◌≢◌, ◌<◌, length};
+ghost use Rattle.coset_label.specs.Words.{most_letters};
+
+use super::words::{letter, room, word};
+use crate::Suffix;
+use coset_label::{Scratch, Word, label_of_word};
+use coset_words::{Mark, mark_of};
+use pauli_basis::Pauli;
+use std::test::Fail;
+
+#[test]
+fn letters_before_words_have_these_marks(rt: HostRuntime) -> Result<(), Fail> {
+    // Qubits, a word, the letter before it, exponent and tag, by complex matrices and the plain fold outside this program.
+    let rows: [(u8, &[u8], u8, u32, u64); 10] = [
+        (1, &[], 3, 1, 70201673963),
+        (1, &[3], 3, 0, 146324906256),
+        (1, &[3], 1, 2, 131779219126),
+        (1, &[2, 3, 1, 2, 3, 1, 2, 3], 1, 9, 165351431703),
+        (2, &[3], 15, 2, 216091606719),
+        (2, &[15], 3, 2, 216091606719),
+        (2, &[3], 1, 2, 95058180414),
+        (2, &[6, 11, 12, 7, 9], 1, 6, 232785570628),
+        (3, &[54], 27, 2, 115606003082),
+        (3, &[27, 54], 27, 1, 263531717110),
+    ];
+    for (n, codes, code, exponent, tag) in rows {
+        if 0 < n && n <= 3 {
+            let mut suffix = Suffix::new(rt.alloc(), n)?;
+            let mut label = Scratch::new(rt.alloc(), n)?;
+            let w = word(n, codes)?;
+            suffix.turn_to(w);
+            let mark = suffix.mark_with(letter(n, code)?, &mut label);
+            assert!(rt; suffix.word() == w);
+            assert_eq!(rt; mark.exponent, exponent, "{code} before {codes:?}");
+            assert_eq!(rt; mark.tag, tag, "{code} before {codes:?}");
+        }
+    }
+    Ok(())
+}
+
+/// What marks of letters before words have shown.
+#[derive(Clone, Copy)]
+struct Seen {
+    /// How many letters were before words.
+    letters: u32,
+    /// Whether a mark was other than that by the longer word's label.
+    other: bool,
+    /// Whether a mark was made the slow way.
+    slow: bool,
+    /// Whether the least exponent has fallen, stayed and risen.
+    fallen: bool,
+    same: bool,
+    risen: bool,
+}
+
+impl Seen {
+    /// Before any letter.
+    fn nothing() -> Seen {
+        Seen {
+            letters: 0,
+            other: false,
+            slow: false,
+            fallen: false,
+            same: false,
+            risen: false,
+        }
+    }
+
+    /// With one letter more: the marks by the quick way, by both, and by the label, and the exponent without the letter.
+    fn with(self, quick: Option<Mark>, mark: Mark, expected: Mark, exponent: u32) -> Seen {
+        Seen {
+            letters: self.letters.saturating_add(1),
+            other: self.other | (mark != expected),
+            slow: self.slow | quick.is_none(),
+            fallen: self.fallen | (mark.exponent < exponent),
+            same: self.same | (mark.exponent == exponent),
+            risen: self.risen | (mark.exponent > exponent),
+        }
+    }
+}
+
+/// Makes the marks of all letters before a word, and again by the labels of the longer words.
+fn look_before(suffix: &mut Suffix, w: Word, label: &mut Scratch, seen: Seen) -> Result<Seen, &'static str>
+    requires word { w.qubits ≡ suffix.old.qubits }
+    requires label { label.old.qubits ≡ suffix.old.qubits }
+    ensures suffix { suffix.new.qubits ≡ suffix.old.qubits }
+    ensures label { label.new.qubits ≡ label.old.qubits }
+{
+    if w.len() >= room(w.qubits()) {
+        return Err("too many letters");
+    }
+    label_of_word(w, label);
+    let exponent = label.exponent();
+    suffix.turn_to(w);
+    let mut more = seen;
+    for code in 1..64u8 {
+        if let Ok(p) = letter(w.qubits(), code) {
+            let quick = suffix.quick_mark(p);
+            let mark = suffix.mark_with(p, label);
+            label_of_word(w.push_front(p), label);
+            more = more.with(quick, mark, mark_of(label), exponent);
+        }
+    }
+    Ok(more)
+}
+
+#[test]
+fn letters_before_short_words_have_marks_of_labels(rt: HostRuntime) -> Result<(), Fail> {
+    // All words of up to two letters on two qubits.
+    let mut suffix = Suffix::new(rt.alloc(), 2)?;
+    let mut label = Scratch::new(rt.alloc(), 2)?;
+    let mut seen = Seen::nothing();
+    for number in 0..=255u8 {
+        let codes = [number / 16, number % 16];
+        seen = look_before(&mut suffix, word(2, &codes)?, &mut label, seen)?;
+        assert!(rt; !seen.other, "before {codes:?}");
+    }
+    assert_eq!(rt; seen.letters, 3840);
+    assert!(rt; !seen.slow);
+    assert!(rt; seen.fallen & seen.same & seen.risen);
+    Ok(())
+}
+
+/// The next number of a sequence that looks random.
+fn next(random: u64) -> u64 {
+    random
+        .wrapping_mul(6364136223846793005)
+        .wrapping_add(1442695040888963407)
+}
+
+/// Codes of up to three letters on three qubits. Often the last is that of the first letter, or of its product with the second.
+fn short_codes(random: u64) -> [u8; 3] {
+    let high = random / 0x1_0000_0000;
+    let first = (high % 64) as u8;
+    let second = (high / 64 % 64) as u8;
+    let third = match high / 4096 % 4 {
+        0 => first,
+        1 => first ^ second,
+        _ => (high / 16384 % 64) as u8,
+    };
+    [first, second, third]
+}
+
+#[test]
+fn letters_before_words_on_three_qubits_have_marks_of_labels(
+    rt: HostRuntime,
+) -> Result<(), Fail> {
+    let mut suffix = Suffix::new(rt.alloc(), 3)?;
+    let mut label = Scratch::new(rt.alloc(), 3)?;
+    let mut seen = Seen::nothing();
+    let mut random = 1;
+    for _ in 0..40u8 {
+        random = next(random);
+        let codes = short_codes(random);
+        seen = look_before(&mut suffix, word(3, &codes)?, &mut label, seen)?;
+        assert!(rt; !seen.other, "before {codes:?}");
+    }
+    assert_eq!(rt; seen.letters, 2520);
+    assert!(rt; !seen.slow);
+    assert!(rt; seen.fallen & seen.same & seen.risen);
+    Ok(())
+}
+
+/// Codes of up to eight letters on one qubit. Mostly neighbours differ.
+fn long_codes(random: u64) -> [u8; 8] {
+    let mut codes = [0u8; 8];
+    let mut left = random / 0x1_0000_0000;
+    let count = (left % 16) as usize;
+    let mut code = 0u8;
+    for place in 0..8usize {
+        left /= 4;
+        code = code.wrapping_add(1 + (left % 4) as u8) % 3;
+        if place <= count {
+            codes[place] = code + 1;
+        }
+    }
+    codes
+}
+
+#[test]
+fn letters_before_long_words_have_marks_of_labels(rt: HostRuntime) -> Result<(), Fail> {
+    let mut suffix = Suffix::new(rt.alloc(), 1)?;
+    let mut label = Scratch::new(rt.alloc(), 1)?;
+    let mut seen = Seen::nothing();
+    let mut random = 1;
+    for _ in 0..200u8 {
+        random = next(random);
+        let codes = long_codes(random);
+        seen = look_before(&mut suffix, word(1, &codes)?, &mut label, seen)?;
+        assert!(rt; !seen.other, "before {codes:?}");
+    }
+    assert_eq!(rt; seen.letters, 600);
+    assert!(rt; seen.slow);
+    assert!(rt; seen.fallen & seen.risen);
+    Ok(())
+}
