@@ -10,6 +10,10 @@ use tc_io::{MemSink, MemSource};
 /// How many bytes the devices here move in a call.
 const PIECE: usize = 16;
 
+/// A circuit that takes seven T gates, so that a search of several workers has several blocks for each.
+const SEVEN_T: &str =
+    "OPENQASM 2.0;\nqreg q[2];\nt q[0];\nt q[1];\ncx q[0],q[1];\ntdg q[1];\ncx q[0],q[1];\nh q[0];\nh q[1];\nt q[0];\nt q[1];\ncx q[0],q[1];\ntdg q[1];\ncx q[0],q[1];\nh q[0];\nt q[0];\n";
+
 /// The status of `synth 12 2` on the controlled S gate where the reads and the writes with these numbers fail, and the bytes
 /// that are written.
 fn answer_where<H: Threads + Sync>(
@@ -82,6 +86,33 @@ fn each_worker_comes_late(rt: HostRuntime) -> Result<(), Fail> {
                 "worker {worker}, turn {turn}"
             );
         }
+    }
+    Ok(())
+}
+
+/// The next number of a linear congruence, and a draw from it below 2^16.
+fn draw(state: &mut u32) -> u32 {
+    *state = state.wrapping_mul(1_664_525).wrapping_add(1_013_904_223);
+    *state >> 16
+}
+
+// One of four workers comes late before one of its blocks, by up to 250,000 counts.
+#[test]
+fn a_hundred_delays(rt: HostRuntime) -> Result<(), Fail> {
+    let words = ["synth", "12", "4"];
+    let text = SEVEN_T.as_bytes();
+    let (_, plain) = answer(&rt, rt.alloc(), &words, text, &OpenWay)?;
+    assert!(rt; plain.starts_with(b"// t-count 7\n"));
+    let mut state = 1;
+    for _ in 0..100 {
+        let gate = Delay {
+            worker: draw(&mut state) % 4,
+            turn: u64::from(draw(&mut state) % 12),
+            spins: draw(&mut state).saturating_mul(4),
+        };
+        let (status, bytes) = answer(&rt, rt.alloc(), &words, text, &gate)?;
+        assert_eq!(rt; status, Status::Found, "{gate:?}");
+        assert!(rt; bytes.as_slice() == plain.as_slice(), "{gate:?}");
     }
     Ok(())
 }
