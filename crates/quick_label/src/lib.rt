@@ -10,3 +10,6 @@ pub use blocks::Blocks;
 pub use spans::{empty_span, widen};
 pub use turns::Turns;
 pub use weights::Weights;
+
+#[cfg(test)]
+mod letter_tests;
