@@ -241,3 +241,11 @@ pub put_back : (size : ℕ) (w : SurdTable) (len other : ℕ) (old old' wholes p
 put_back size w len other old old' wholes parts e e' h =
     subst (λ (xs : List ℕ). AreWeights size w xs (take other (parts ++ drop (length parts) old'))) (sym (given_back len old wholes e))
     (subst (AreWeights size w wholes) (sym (given_back other old' parts e')) h)
+
+-- the weight that stands at a place
+pub weight_at : (size : ℕ) (w : SurdTable) (wholes parts wholes' parts' : List ℕ) → AreWeights size w wholes parts → wholes' ≡ wholes → parts' ≡ parts → (row : ℕ) → row < size
+    → IsWeight (w 0 row) (slice_index wholes' row) (slice_index parts' row)
+weight_at size w wholes parts wholes' parts' are e f row l = record {
+  b = subst (λ (xs : List ℕ). IsCongruent (2 ^ 64) (w 0 row).b (slice_index xs row)) (sym e) (are.wholes row l);
+  a = subst (λ (xs : List ℕ). IsCongruent (2 ^ 64) (w 0 row).a (slice_index xs row)) (sym f) (are.parts row l);
+}

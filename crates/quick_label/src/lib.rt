@@ -18,7 +18,9 @@ mod sums;
 mod turns;
 mod weights;
 
+pub use parities::Parities;
 pub use suffix::Suffix;
+pub use turns::Turns;
 
 #[cfg(test)]
 mod tests;

@@ -1,4 +1,5 @@
 mod columns;
+mod letters;
 mod marks;
 mod numbers;
 mod parities;

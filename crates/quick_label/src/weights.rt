@@ -96,28 +96,25 @@ fn turned_sum(x: u64, y: u64, negative: bool) -> u64
     }
 }
 
-/// The weight of a row before a rotation by P, for the whole part and the part of √2: √2 times the row's own where the row commutes
-/// with P, and else that and its partner's with a sign.
+/// The weight of a row before a rotation by P, for the whole part and the part of √2, from its own and its partner's: √2 times its
+/// own where the row commutes with P, and else its own and its partner's with a sign.
 fn rotated_weight(
-    weights: &Weights,
-    row: usize,
-    partner: usize,
+    own: (u64, u64),
+    partner: (u64, u64),
     commutes: bool,
     negative: bool,
 ) -> (u64, u64)
-    requires row { row < length weights.now.wholes }
-    requires partner { partner < length weights.now.wholes }
-    ensures { (n p : ℕ) (w : SurdTable) → partner ≡ product_code p row → commutes ≡ commute n p row → negative ≡ anti_sign n p row
-        → AreWeights (length weights.now.wholes) w weights.now.wholes weights.now.parts
+    ensures { (n p row : ℕ) (w : SurdTable) → commutes ≡ commute n p row → negative ≡ anti_sign n p row
+        → IsWeight (w 0 row) own.0 own.1 → IsWeight (w 0 (product_code p row)) partner.0 partner.1
         → IsWeight (rotated_weights n false p w 0 row) result.0 result.1 }
 {
-    let (whole, part) = (weights.wholes[row], weights.parts[row]);
+    let (whole, part) = own;
     if commutes {
         return (part, whole.wrapping_add(whole));
     }
     (
-        turned_sum(whole, weights.wholes[partner], negative),
-        turned_sum(part, weights.parts[partner], negative),
+        turned_sum(whole, partner.0, negative),
+        turned_sum(part, partner.1, negative),
     )
 }
 
@@ -141,8 +138,16 @@ fn fill_rotated(
         → AreWeights (length weights.now.wholes) w weights.now.wholes weights.now.parts
         → AreWeights (length weights.now.wholes) (rotated_weights n false p w) wholes.new parts.new }
 {
+    let old_wholes = weights.wholes();
+    let old_parts = weights.parts();
     for row in 0..wholes.len() {
-        let (whole, part) = rotated_weight(weights, row, p ^ row, commuting[row], negative[row]);
+        let partner = p ^ row;
+        let (whole, part) = rotated_weight(
+            (old_wholes[row], old_parts[row]),
+            (old_wholes[partner], old_parts[partner]),
+            commuting[row],
+            negative[row],
+        );
         wholes[row] = whole;
         parts[row] = part;
     }
