@@ -1,22 +1,30 @@
 -- What is kept of definitions, one after another.
-use Rattle.std.proofs.Common.{◌≡◌, ℕ, zero, suc, ◌+◌, ◌-◌, ◌<◌, ◌≤◌, Bool, true, false, cond, ◌||◌, List, [], ◌∷◌, ◌++◌, Bor, length, map, take, get_or, min, Option, Some, None, arith, ap, ◌∙◌, sym, refl, subst, ⊎_elim}
+use Rattle.std.proofs.Common.{◌≡◌, ℕ, zero, suc, ◌+◌, ◌-◌, ◌<◌, ◌≤◌, Bool, true, false, cond, ◌||◌, List, [], ◌∷◌, ◌++◌, Bor, length, map, take, get_or, min, Option, Some, None, arith, ap, ◌∙◌, sym, refl, subst, ⊎_elim, length-append}
 use Rattle.std.specs.Str.{bytes_eq}
 use Rattle.std.specs.List.{list_any}
 use Rattle.std.specs.Prelude.{option_map, nat_le, IfSome}
 use Rattle.std.specs.Option.{ForSome, ForNone}
-use Rattle.std.proofs.lemmas.List.{get_or_default, map-append, map_more, length-map}
+use Rattle.std.proofs.lemmas.List.{get_or_push, map-append, map_more, length-map}
+use Rattle.std.proofs.Math.ListN.{get_or-append}
 use Rattle.std.proofs.lemmas.Bool.{leb-true}
 use Rattle.tc_circuit.specs.declared.circuit.Gate.{Gate}
 use Rattle.tc_circuit.specs.Circuit.{Gates as Made}
 use Rattle.tc_circuit.specs.Model.{IsCircuit, t_count_of}
 use Rattle.qasm_reader.specs.declared.gates.Size.{Size}
 use Rattle.qasm_reader.specs.declared.scan.Defined.{Defined}
+use Rattle.qasm_reader.specs.declared.scan.Definitions.{Definitions}
+use Rattle.std.specs.BTreeMap.{BTreeMap, get_by}
+use Rattle.std.specs.Map.{lookup}
+use Rattle.std.specs.Ordering.{nat_cmp, is_eq}
+use Rattle.std.specs.Cmp.Lexicographic.{slice_cmp}
+use Rattle.std.proofs.lemmas.Map.Text.{is_eq-slice_cmp}
+use Rattle.std.proofs.lemmas.Slice.Eq.{bytes_eq-Decides}
 use Rattle.qasm_reader.specs.declared.statements.Statement.{Statement as CodeStatement}
 use Rattle.qasm_reader.specs.Limits.{most_qubits, most_t_gates, most_gates_defined}
 use Rattle.qasm_reader.specs.Rows.{is_bad_entry}
 use Rattle.qasm_reader.specs.Known.{Known, table, known}
 use Rattle.qasm_reader.specs.State.{State, gates_at, gate_in, gate_qubits, gates_in, place_among, with_gate}
-use Rattle.qasm_reader.specs.View.{form, name_list, entries, counted_size, gates_made, size_of, size_or_nothing, count_at, gate_of, gates_of, gates_with, known_behind, IsKept, AreKeptBehind, AreKept, IsDefinedAs, IsBehind}
+use Rattle.qasm_reader.specs.View.{place_of, IsPlaced, form, name_list, entries, counted_size, gates_made, size_of, size_or_nothing, count_at, gate_of, gates_of, gates_with, known_behind, IsKept, AreKeptBehind, AreKept, IsDefinedAs, IsBehind}
 use Rattle.qasm_reader.proofs.Placing.{t_count-at, length-at, t_count-few}
 use Rattle.qasm_reader.proofs.Places.{or_false, or_right}
 use Rattle.qasm_reader.proofs.Takeable.{AreSound, table_sound, look_up_is, sound_more, body_fits}
@@ -24,6 +32,10 @@ use Rattle.qasm_reader.proofs.Takeable.{AreSound, table_sound, look_up_is, sound
 -- the gates that are known, as a function of names
 abbrev Gates : Type 0
 Gates = List ℕ → Option Known
+
+-- places by names
+abbrev Places : Type 0
+Places = BTreeMap (Bor (List ℕ)) ℕ
 
 -- one definition more is known
 abbrev with_definition : Gates → Defined → Gates
@@ -38,43 +50,72 @@ pub kept-push : (gates : Gates) (ds : List Defined) (d : Defined) → AreKeptBeh
 kept-push gates [] d a h = (h, tt)
 kept-push gates (x ∷ ds) d a h = (a.0, kept-push (with_definition gates x) ds d a.1 h)
 
--- each definition is kept behind those before it
-kept_at : (gates : Gates) (ds : List Defined) (i : ℕ) (d : Defined) → i < length ds → AreKeptBehind gates ds → IsKept (gate_of (known_behind gates (take i ds)) (get_or ds i d)) (get_or ds i d)
-kept_at gates [] i d h a = absurd (omega arith)
-kept_at gates (x ∷ ds) zero d h a = a.0
-kept_at gates (x ∷ ds) (suc i) d h a = kept_at (with_definition gates x) ds i d (omega arith) a.1
+-- equal bytes, either way round
+bytes_swap : (a b : List ℕ) → bytes_eq a b ≡ bytes_eq b a
+bytes_swap a b = go (bytes_eq a b) (bytes_eq b a) refl refl
+  where
+    go : (s t : Bool) → bytes_eq a b ≡ s → bytes_eq b a ≡ t → bytes_eq a b ≡ bytes_eq b a
+    go true t e f = e ∙ sym ((bytes_eq-Decides b a).1 (sym ((bytes_eq-Decides a b).0 e)))
+    go false true e f = (bytes_eq-Decides a b).1 (sym ((bytes_eq-Decides b a).0 f)) ∙ sym f
+    go false false e f = e ∙ sym f
 
--- what is known behind one definition more
-known_at : (gates : Gates) (ds : List Defined) (i : ℕ) (d : Defined) → i < length ds
-    → known_behind gates (take (suc i) ds) ≡ with_definition (known_behind gates (take i ds)) (get_or ds i d)
-known_at gates [] i d h = absurd (omega arith)
-known_at gates (x ∷ ds) zero d h = refl
-known_at gates (x ∷ ds) (suc i) d h = known_at (with_definition gates x) ds i d (omega arith)
+-- the places of names with one place more
+abbrev PlacesMore : Places → Places → List ℕ → ℕ → Type 0
+PlacesMore old new name place = (other : List ℕ) → place_of new other ≡ cond (bytes_eq other name) (Some place) (place_of old other)
 
--- a definition of another name is passed over
-pub other_definition : (ds : List Defined) (i : ℕ) (d : Defined) (name : List ℕ) → i < length ds → bytes_eq name (get_or ds i d).definition.name.now ≡ false
-    → known_behind known (take (i + 1) ds) name ≡ known_behind known (take i ds) name
-other_definition ds i d name h e =
-    let more : i + 1 ≡ suc i = omega arith in
-    ap (λ (n : ℕ). known_behind known (take n ds) name) more
-    ∙ ap (λ (f : Gates). f name) (known_at known ds i d h)
-    ∙ ap (λ (t : Bool). cond t (Some (gate_of (known_behind known (take i ds)) (get_or ds i d))) (known_behind known (take i ds) name)) e
+-- what is known of another name stays
+other_placed : (ds : List Defined) (d : Defined) (name : List ℕ) (o : Option ℕ) → bytes_eq name d.definition.name.now ≡ false → IsPlaced ds name o → IsPlaced (ds ++ d ∷ []) name o
+other_placed ds d name o e h = go o h
+  where
+    stays : known_behind known (ds ++ d ∷ []) name ≡ known_behind known ds name
+    stays = ap (λ (f : Gates). f name) (known-push known ds d) ∙ ap (λ (t : Bool). cond t (Some (gate_of (known_behind known ds) d)) (known_behind known ds name)) e
 
--- a definition of the name is the gate's
-pub this_definition : (ds : List Defined) (i : ℕ) (d x : Defined) (name : List ℕ) → i < length ds → bytes_eq name (get_or ds i d).definition.name.now ≡ true → x ≡ get_or ds i x → AreKept ds
-    → IsDefinedAs (known_behind known (take (i + 1) ds) name) x
-this_definition ds i d x name h e is kept =
-    let more : i + 1 ≡ suc i = omega arith in
-    let here : bytes_eq name x.definition.name.now ≡ true =
-    ap (λ (y : Defined). bytes_eq name y.definition.name.now) (is ∙ get_or_default ds i x d h) ∙ e in
+    go : (p : Option ℕ) → IsPlaced ds name p → IsPlaced (ds ++ d ∷ []) name p
+    go None h = stays ∙ h
+    go (Some place) h = (
+      omega (arith, h.0, length-append ds (d ∷ [])),
+      λ x. subst (λ (o : Option Known). IsDefinedAs o (get_or (ds ++ d ∷ []) place x)) (sym stays)
+          (subst (IsDefinedAs (known_behind known ds name)) (sym (get_or-append ds (d ∷ []) x place h.0)) (h.1 x)),
+    )
+
+-- and the new one is that of the last definition
+new_placed : (ds : List Defined) (d : Defined) (name : List ℕ) → bytes_eq name d.definition.name.now ≡ true → IsKept (gate_of (known_behind known ds) d) d → IsPlaced (ds ++ d ∷ []) name (Some (length ds))
+new_placed ds d name e kept =
+    let is = ap (λ (f : Gates). f name) (known-push known ds d) ∙ ap (λ (t : Bool). cond t (Some (gate_of (known_behind known ds) d)) (known_behind known ds name)) e in
+    let defined : IsDefinedAs (known_behind known (ds ++ d ∷ []) name) d = record { gate = gate_of (known_behind known ds) d; is = is; kept = kept } in
+    (omega (arith, length-append ds (d ∷ [])), λ x. subst (IsDefinedAs (known_behind known (ds ++ d ∷ []) name)) (sym (get_or_push ds d x (length ds) refl)) defined)
+
+-- one definition more, and its place
+pub kept_more : (old new : Definitions) (d : Defined) → AreKept old → IsKept (gate_of (known_behind known old.list.items) d) d → new.list.items ≡ old.list.items ++ d ∷ []
+    → PlacesMore old.places new.places d.definition.name.now (length old.list.items) → AreKept new
+kept_more old new d kept is items places =
+    let ds = old.list.items in
     record {
-      gate = gate_of (known_behind known (take i ds)) x;
-      is = ap (λ (n : ℕ). known_behind known (take n ds) name) more
-          ∙ ap (λ (f : Gates). f name) (known_at known ds i x h)
-          ∙ ap (λ (y : Defined). with_definition (known_behind known (take i ds)) y name) (sym is)
-          ∙ ap (λ (t : Bool). cond t (Some (gate_of (known_behind known (take i ds)) x)) (known_behind known (take i ds) name)) here;
-      kept = subst (λ (y : Defined). IsKept (gate_of (known_behind known (take i ds)) y) y) (sym is) (kept_at known ds i x h kept);
+      list = subst (AreKeptBehind known) (sym items) (kept-push known ds d kept.list is);
+      places = λ name. subst (λ (l : List Defined). IsPlaced l name (place_of new.places name)) (sym items)
+          (subst (IsPlaced (ds ++ d ∷ []) name) (sym (places name)) (go name (bytes_eq name d.definition.name.now) refl));
     }
+  where
+    go : (name : List ℕ) (t : Bool) → bytes_eq name d.definition.name.now ≡ t → IsPlaced (old.list.items ++ d ∷ []) name (cond t (Some (length old.list.items)) (place_of old.places name))
+    go name true e = new_placed old.list.items d name e is
+    go name false e = other_placed old.list.items d name (place_of old.places name) e (kept.places name)
+
+-- no definitions
+pub kept_none : (new : Definitions) → new.list.items ≡ [] → new.places.entries ≡ [] → AreKept new
+kept_none new items entries = record {
+  list = subst (AreKeptBehind known) (sym items) tt;
+  places = λ name. subst (λ (l : List Defined). IsPlaced l name (place_of new.places name)) (sym items) (subst (IsPlaced [] name) (sym (none name)) refl);
+}
+  where
+    none : (name : List ℕ) → place_of new.places name ≡ None
+    none name = ap (lookup (λ k. is_eq (slice_cmp nat_cmp name k.now))) entries
+
+-- a place that was inserted
+pub inserted : (old new : Places) (key : Bor (List ℕ)) (place : ℕ) (other : List ℕ)
+    → ((q : Bor (List ℕ)) → get_by (λ k. slice_cmp nat_cmp q.now k.now) new ≡ cond (is_eq (slice_cmp nat_cmp key.now q.now)) (Some place) (get_by (λ k. slice_cmp nat_cmp q.now k.now) old))
+    → place_of new other ≡ cond (bytes_eq other key.now) (Some place) (place_of old other)
+inserted old new key place other h =
+    h (record key { now = other }) ∙ ap (λ (t : Bool). cond t (Some place) (place_of old other)) (is_eq-slice_cmp key.now other ∙ bytes_swap key.now other)
 
 -- a definition of what is known has its size and, where it takes few arguments, its gates
 pub defined_size : (o : Option Known) (d : Defined) → IsDefinedAs o d → Some d.size ≡ option_map size_of o
@@ -112,10 +153,10 @@ few_behind : (gates : Gates) (ds : List Defined) → AreFew gates → AreKeptBeh
 few_behind gates [] s k = s
 few_behind gates (d ∷ ds) s k = few_behind (with_definition gates d) ds (few_more d.definition.name.now (gate_of gates d) gates k.0.few s) k.1
 
-pub kept_few : (ds : List Defined) → AreKept ds → AreFew (known_behind known ds)
+pub kept_few : (ds : List Defined) → AreKeptBehind known ds → AreFew (known_behind known ds)
 kept_few ds k = few_behind known ds table_few k
 
-pub kept_sound : (ds : List Defined) → AreKept ds → AreSound (known_behind known ds)
+pub kept_sound : (ds : List Defined) → AreKeptBehind known ds → AreSound (known_behind known ds)
 kept_sound ds k = sound_behind known ds table_sound k
 
 -- a gate by its size and its gates
@@ -175,7 +216,7 @@ counted_exact g few =
     λ i. record { arity = g.arity; length = a i; t_count = b i }
 
 -- a definition that can be taken is kept
-pub kept_new : (ds : List Defined) (d : Defined) → AreKept ds → 0 < length d.definition.names.items → length (gate_of (known_behind known ds) d).gates ≤ most_gates_defined
+pub kept_new : (ds : List Defined) (d : Defined) → AreKeptBehind known ds → 0 < length d.definition.names.items → length (gate_of (known_behind known ds) d).gates ≤ most_gates_defined
     → list_any (is_bad_entry (known_behind known ds) (name_list d.definition.names.items)) (entries d.definition.body.items) ≡ false
     → d.size ≡ counted_size (gate_of (known_behind known ds) d) → (length d.definition.names.items ≤ most_qubits → d.gates.items ≡ (gate_of (known_behind known ds) d).gates)
     → IsKept (gate_of (known_behind known ds) d) d

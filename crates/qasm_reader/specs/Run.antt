@@ -32,7 +32,7 @@ IsTakeable s other = Unit {0}
 
 -- no row applies to the statement, and this holds behind it
 abbrev pub Takes : State → List Lexeme → Scan → Type 0
-Takes s ws t = (row_of s (statement_at ws) ≡ None) × (state t ≡ after s (form_of ws)) × AreKept t.definitions.items
+Takes s ws t = (row_of s (statement_at ws) ≡ None) × (state t ≡ after s (form_of ws)) × AreKept t.definitions
 
 -- the fault is the first row that applies to the statement, at its first token, or want of memory
 abbrev pub IsRowFault : State → List Lexeme → ReadFault → Type 0

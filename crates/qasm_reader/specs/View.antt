@@ -1,8 +1,11 @@
 -- What the code's values say, apart from where they lie in memory.
-use Rattle.std.specs.Prelude.{◌≡◌, ℕ, ◌<◌, ◌≤◌, Bool, List, [], ◌∷◌, length, map, min, Option, Some, None, option_map, is_some, ◌+◌, ◌*◌, ◌==◌, if◌then◌else◌}
+use Rattle.std.specs.Prelude.{◌≡◌, ℕ, get_or, ◌<◌, ◌≤◌, Bool, List, [], ◌∷◌, length, map, min, Option, Some, None, option_map, is_some, ◌+◌, ◌*◌, ◌==◌, if◌then◌else◌}
 use Rattle.std.specs.List.{list_any}
 use Rattle.std.specs.Str.{bytes_eq}
 use Rattle.std.specs.BTreeSet.{BTreeSet}
+use Rattle.std.specs.BTreeMap.{BTreeMap, get_by}
+use Rattle.std.specs.Ordering.{nat_cmp}
+use Rattle.std.specs.Cmp.Lexicographic.{slice_cmp}
 use Rattle.tc_circuit.specs.Circuit.{Gates}
 use Rattle.tc_circuit.specs.Model.{IsCircuit, t_count_of}
 use Rattle.tc_circuit.specs.declared.circuit.Gate.{Gate}
@@ -15,6 +18,7 @@ use Rattle.qasm_reader.specs.declared.forms.Entry.TheVariants.{Barrier as CodeBa
 use Rattle.qasm_reader.specs.declared.gates.Known.{Known as CodeKnown}
 use Rattle.qasm_reader.specs.declared.gates.Size.{Size}
 use Rattle.qasm_reader.specs.declared.scan.Defined.{Defined}
+use Rattle.qasm_reader.specs.declared.scan.Definitions.{Definitions}
 use Rattle.qasm_reader.specs.declared.statements.Statement.{Statement as CodeStatement}
 use Rattle.qasm_reader.specs.declared.scan.Register.{Register as CodeRegister}
 use Rattle.qasm_reader.specs.declared.scan.Scan.{Scan as CodeScan}
@@ -92,7 +96,7 @@ abbrev pub state : CodeScan → State
 state s = record {
   registers = registers s.registers.items;
   named = names s.names;
-  known = known_behind known s.definitions.items;
+  known = known_behind known s.definitions.list.items;
   qubits = s.qubits;
   began = is_some s.circuit;
   gates = gates_made s.circuit;
@@ -112,15 +116,25 @@ abbrev pub AreKeptBehind : (List ℕ → Option Known) → List Defined → Type
 AreKeptBehind known [] = Unit {0}
 AreKeptBehind known (d ∷ ds) = IsKept (gate_of known d) d × AreKeptBehind (with_gate d.definition.name.now (gate_of known d) known) ds
 
--- and so it is of all definitions
-abbrev pub AreKept : List Defined → Type 0
-AreKept ds = AreKeptBehind known ds
-
 -- the definition of the known gate, which is kept
 pub record IsDefinedAs (o : Option Known) (d : Defined) : Type 0 where
   pub gate : Known
   pub is : o ≡ Some gate
   pub kept : IsKept gate d
+
+-- the place that is noted for a name
+abbrev pub place_of : BTreeMap (Bor (List ℕ)) ℕ → List ℕ → Option ℕ
+place_of places name = get_by (λ k. slice_cmp nat_cmp name k.now) places
+
+-- the place is that of the definition of the known gate; without one the gate is that of the table
+abbrev pub IsPlaced : List Defined → List ℕ → Option ℕ → Type 0
+IsPlaced ds name None = known_behind known ds name ≡ known name
+IsPlaced ds name (Some place) = (place < length ds) × ((d : Defined) → IsDefinedAs (known_behind known ds name) (get_or ds place d))
+
+-- and so it is of all definitions, and their places are noted
+pub record AreKept (definitions : Definitions) : Type 0 where
+  pub list : AreKeptBehind known definitions.list.items
+  pub places : (name : List ℕ) → IsPlaced definitions.list.items name (place_of definitions.places name)
 
 abbrev pub statement_of : CodeStatement → Statement
 statement_of p = record { lexemes = lexemes p.lexemes.now; form = option_map form p.form }

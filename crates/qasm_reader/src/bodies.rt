@@ -15,7 +15,7 @@ use crate::finding::{add_name, contains_name};
 use crate::forms::{Definition, Entry};
 use crate::gates::Size;
 use crate::limits::MOST_GATES_DEFINED;
-use crate::scan::Defined;
+use crate::scan::Definitions;
 use std::alloc::{AllocError, Global};
 use std::collections::BTreeSet;
 use tc_circuit::Gate;
@@ -75,12 +75,12 @@ fn is_bad_call(alloc: Global, size: Option<Size>, args: &[&[u8]]) -> Result<bool
 // Whether an entry holds a name that isn't in the set, or misuses a gate.
 fn is_bad_entry<'a>(
     alloc: Global,
-    list: &[Defined],
+    list: &Definitions<'a>,
     set: &BTreeSet<&'a [u8]>,
     line: &Entry<'a>,
 ) -> Result<bool, AllocError>
     requires { AreKept list.now }
-    ensures { IfOk result (λ bad. (among : List (List ℕ)) → ((other : List ℕ) → names set.now other ≡ is_among among other) → bad ≡ is_bad_entry (known_behind known list.now) among (entry line.now)) }
+    ensures { IfOk result (λ bad. (among : List (List ℕ)) → ((other : List ℕ) → names set.now other ≡ is_among among other) → bad ≡ is_bad_entry (known_behind known list.now.list.items) among (entry line.now)) }
 {
     match line {
         Entry::Barrier(args) => Ok(has_stranger(set, args)),
@@ -92,11 +92,11 @@ fn is_bad_entry<'a>(
 // Whether a name stands twice among the names of a definition, or an entry of its body is bad.
 pub(crate) fn has_bad_body<'a>(
     alloc: Global,
-    list: &[Defined],
+    list: &Definitions<'a>,
     definition: &Definition<'a>,
 ) -> Result<bool, AllocError>
     requires { AreKept list.now }
-    ensures { IfOk result (λ bad. bad ≡ (has_twin_names (name_list definition.now.names.items) || list_any (is_bad_entry (known_behind known list.now) (name_list definition.now.names.items)) (entries definition.now.body.items))) }
+    ensures { IfOk result (λ bad. bad ≡ (has_twin_names (name_list definition.now.names.items) || list_any (is_bad_entry (known_behind known list.now.list.items) (name_list definition.now.names.items)) (entries definition.now.body.items))) }
 {
     if has_twin_names(alloc, &definition.names)? {
         return Ok(true);
@@ -123,10 +123,10 @@ fn size_or_nothing(size: Option<Size>) -> Size
 }
 
 // How many gates an entry stands for, and how many of them are T gates.
-fn entry_size(list: &[Defined], line: &Entry) -> Size
+fn entry_size<'a>(list: &Definitions<'a>, line: &Entry<'a>) -> Size
     requires { AreKept list.now }
-    ensures length { (among : List (List ℕ)) → result.length ≡ length (entry_gates (known_behind known list.now) among (entry line.now)) }
-    ensures t_count { (among : List (List ℕ)) → result.t_count ≡ t_count_of (entry_gates (known_behind known list.now) among (entry line.now)) }
+    ensures length { (among : List (List ℕ)) → result.length ≡ length (entry_gates (known_behind known list.now.list.items) among (entry line.now)) }
+    ensures t_count { (among : List (List ℕ)) → result.t_count ≡ t_count_of (entry_gates (known_behind known list.now.list.items) among (entry line.now)) }
     ensures few { result.length ≤ most_gates_defined }
     ensures low { result.t_count ≤ most_gates_defined }
 {
@@ -137,9 +137,9 @@ fn entry_size(list: &[Defined], line: &Entry) -> Size
 }
 
 // The size of the gate of a definition, where gates are counted up to one more than the most.
-pub(crate) fn body_size(list: &[Defined], definition: &Definition) -> Size
+pub(crate) fn body_size<'a>(list: &Definitions<'a>, definition: &Definition<'a>) -> Size
     requires { AreKept list.now }
-    ensures { result ≡ counted_size (defined (known_behind known list.now) (name_list definition.now.names.items) (entries definition.now.body.items)) }
+    ensures { result ≡ counted_size (defined (known_behind known list.now.list.items) (name_list definition.now.names.items) (entries definition.now.body.items)) }
 {
     let mut length = 0;
     let mut t_count = 0;
@@ -194,17 +194,17 @@ fn push_placed(found: &mut Vec<Gate>, gates: &[Gate], qubits: &[u8]) -> Result<(
 }
 
 // Adds the gates of an entry.
-fn push_entry(
+fn push_entry<'a>(
     alloc: Global,
     found: &mut Vec<Gate>,
-    list: &[Defined],
-    among: &[&[u8]],
-    line: &Entry,
+    list: &Definitions<'a>,
+    among: &[&'a [u8]],
+    line: &Entry<'a>,
 ) -> Result<(), AllocError>
     requires kept { AreKept list.now }
     requires narrow { length among.now ≤ most_qubits }
-    requires good { is_bad_entry (known_behind known list.now) (name_list among.now) (entry line.now) ≡ false }
-    ensures { OnOk result (found.new.items ≡ found.old.items ++ entry_gates (known_behind known list.now) (name_list among.now) (entry line.now)) }
+    requires good { is_bad_entry (known_behind known list.now.list.items) (name_list among.now) (entry line.now) ≡ false }
+    ensures { OnOk result (found.new.items ≡ found.old.items ++ entry_gates (known_behind known list.now.list.items) (name_list among.now) (entry line.now)) }
 {
     match line {
         Entry::Barrier(_) => Ok(()),
@@ -216,15 +216,15 @@ fn push_entry(
 }
 
 // The gates of a definition, on the places of its names.
-pub(crate) fn gates_defined(
+pub(crate) fn gates_defined<'a>(
     alloc: Global,
-    list: &[Defined],
-    definition: &Definition,
+    list: &Definitions<'a>,
+    definition: &Definition<'a>,
 ) -> Result<Vec<Gate>, AllocError>
     requires kept { AreKept list.now }
     requires narrow { length definition.now.names.items ≤ most_qubits }
-    requires good { list_any (is_bad_entry (known_behind known list.now) (name_list definition.now.names.items)) (entries definition.now.body.items) ≡ false }
-    ensures { IfOk result (λ v. v.items ≡ (defined (known_behind known list.now) (name_list definition.now.names.items) (entries definition.now.body.items)).gates) }
+    requires good { list_any (is_bad_entry (known_behind known list.now.list.items) (name_list definition.now.names.items)) (entries definition.now.body.items) ≡ false }
+    ensures { IfOk result (λ v. v.items ≡ (defined (known_behind known list.now.list.items) (name_list definition.now.names.items) (entries definition.now.body.items)).gates) }
 {
     let mut gates = Vec::new(alloc);
     for line in &definition.body {

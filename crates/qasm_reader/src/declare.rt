@@ -13,25 +13,28 @@ ghost use Rattle.qasm_reader.specs.View.{form, name_list, entries, size_of, coun
 
 use crate::bodies::gates_defined;
 use crate::circuits::{push_gates, t_count_at};
-use crate::definitions::gates_by_name;
+use crate::definitions::{gates_by_name, push_definition};
 use crate::finding::{add_name, small_value};
 use crate::forms::{Definition, Form};
 use crate::gates::Size;
 use crate::limits::MOST_QUBITS;
-use crate::scan::{Defined, Register, Scan};
+use crate::scan::{Defined, Definitions, Register, Scan};
 use crate::statements::Statement;
 use std::alloc::{AllocError, Global};
-use std::collections::BTreeSet;
+use std::collections::{BTreeMap, BTreeSet};
 use tc_circuit::{Circuit, Gate};
 
 pub(crate) fn new_scan<'a>(alloc: Global) -> Scan<'a>
     ensures value { state result ≡ start }
-    ensures kept { AreKept result.definitions.items }
+    ensures kept { AreKept result.definitions }
 {
     Scan {
         registers: Vec::new(alloc),
         names: BTreeSet::new(alloc),
-        definitions: Vec::new(alloc),
+        definitions: Definitions {
+            list: Vec::new(alloc),
+            places: BTreeMap::new(alloc),
+        },
         qubits: 0,
         circuit: None,
         t_count: 0,
@@ -43,7 +46,7 @@ pub(crate) fn new_scan<'a>(alloc: Global) -> Scan<'a>
 fn counted<'a>(scan: Scan<'a>) -> Scan<'a>
     requires { scan.count < most_statements }
     ensures value { state result ≡ record (state scan.entry) { count = (state scan.entry).count + 1 } }
-    ensures kept { result.definitions.items ≡ scan.entry.definitions.items }
+    ensures kept { result.definitions ≡ scan.entry.definitions }
 {
     let mut scan = scan;
     scan.count += 1;
@@ -53,7 +56,7 @@ fn counted<'a>(scan: Scan<'a>) -> Scan<'a>
 // One register of bits more, of which only the name is kept.
 fn with_creg<'a>(scan: Scan<'a>, name: &'a [u8]) -> Result<Scan<'a>, AllocError>
     ensures value { IfOk result (λ s. state s ≡ record (state scan.entry) { named = with_name name.now (state scan.entry).named }) }
-    ensures kept { IfOk result (λ s. s.definitions.items ≡ scan.entry.definitions.items) }
+    ensures kept { IfOk result (λ s. s.definitions ≡ scan.entry.definitions) }
 {
     let mut scan = scan;
     add_name(&mut scan.names, name)?;
@@ -70,7 +73,7 @@ fn with_qreg<'a>(scan: Scan<'a>, name: &'a [u8], size: &[u8]) -> Result<Scan<'a>
       named = with_name name.now (state scan.entry).named;
       qubits = (state scan.entry).qubits + value size.now;
     }) }
-    ensures kept { IfOk result (λ s. s.definitions.items ≡ scan.entry.definitions.items) }
+    ensures kept { IfOk result (λ s. s.definitions ≡ scan.entry.definitions) }
 {
     let mut scan = scan;
     let size = small_value(size);
@@ -99,11 +102,11 @@ fn begun(alloc: Global, n: u8, circuit: Option<Circuit>) -> Circuit
 fn with_gates<'a>(
     alloc: Global,
     scan: Scan<'a>,
-    name: &[u8],
+    name: &'a [u8],
     size: Option<Size>,
     qubits: &[u8],
 ) -> Result<Scan<'a>, AllocError>
-    requires kept { AreKept scan.definitions.items }
+    requires kept { AreKept scan.definitions }
     requires is { size ≡ option_map size_of ((state scan).known name.now) }
     requires narrow { IfSome ((state scan).known name.now) (λ g. g.arity ≤ most_qubits) }
     requires some { 0 < scan.qubits }
@@ -113,7 +116,7 @@ fn with_gates<'a>(
       began = true;
       gates = (state scan.entry).gates ++ gates_at ((state scan.entry).known name.now) qubits.now;
     }) }
-    ensures kept { IfOk result (λ s. s.definitions.items ≡ scan.entry.definitions.items) }
+    ensures kept { IfOk result (λ s. s.definitions ≡ scan.entry.definitions) }
 {
     let Scan {
         registers,
@@ -143,14 +146,14 @@ fn with_gates<'a>(
 }
 
 // The gates of a definition that are kept: all, if it has at most three names.
-fn gates_kept(
+fn gates_kept<'a>(
     alloc: Global,
-    list: &[Defined],
-    definition: &Definition,
+    list: &Definitions<'a>,
+    definition: &Definition<'a>,
 ) -> Result<Vec<Gate>, AllocError>
     requires kept { AreKept list.now }
-    requires good { list_any (is_bad_entry (known_behind known list.now) (name_list definition.now.names.items)) (entries definition.now.body.items) ≡ false }
-    ensures { IfOk result (λ v. length definition.now.names.items ≤ most_qubits → v.items ≡ (defined (known_behind known list.now) (name_list definition.now.names.items) (entries definition.now.body.items)).gates) }
+    requires good { list_any (is_bad_entry (known_behind known list.now.list.items) (name_list definition.now.names.items)) (entries definition.now.body.items) ≡ false }
+    ensures { IfOk result (λ v. length definition.now.names.items ≤ most_qubits → v.items ≡ (defined (known_behind known list.now.list.items) (name_list definition.now.names.items) (entries definition.now.body.items)).gates) }
 {
     if definition.names.len() <= usize::from(MOST_QUBITS) {
         gates_defined(alloc, list, definition)
@@ -166,19 +169,20 @@ fn with_definition<'a>(
     definition: Definition<'a>,
     size: Size,
 ) -> Result<Scan<'a>, AllocError>
-    requires kept { AreKept scan.definitions.items }
+    requires kept { AreKept scan.definitions }
     requires fits { IsTakeable (state scan) (Some (Define definition.name.now (name_list definition.names.items) (entries definition.body.items))) }
     requires size { size ≡ counted_size (defined (state scan).known (name_list definition.names.items) (entries definition.body.items)) }
     ensures value { IfOk result (λ s. state s ≡ declared (state scan.entry) (Some (Define definition.entry.name.now (name_list definition.entry.names.items) (entries definition.entry.body.items)))) }
-    ensures kept { IfOk result (λ s. AreKept s.definitions.items) }
+    ensures kept { IfOk result (λ s. AreKept s.definitions) }
 {
     let gates = gates_kept(alloc, &scan.definitions, &definition)?;
     let mut scan = scan;
-    scan.definitions.push(Defined {
+    let defined = Defined {
         definition,
         size,
         gates,
-    })?;
+    };
+    push_definition(&mut scan.definitions, defined)?;
     Ok(scan)
 }
 
@@ -188,11 +192,11 @@ fn with_form<'a>(
     scan: Scan<'a>,
     statement: Statement<'_, 'a>,
 ) -> Result<Scan<'a>, AllocError>
-    requires kept { AreKept scan.definitions.items }
+    requires kept { AreKept scan.definitions }
     requires fits { IsTakeable (state scan) (option_map form statement.form) }
     requires behind { IsBehind (state scan) statement }
     ensures value { IfOk result (λ s. state s ≡ declared (state scan.entry) (option_map form statement.entry.form)) }
-    ensures kept { IfOk result (λ s. AreKept s.definitions.items) }
+    ensures kept { IfOk result (λ s. AreKept s.definitions) }
 {
     let Statement {
         lexemes: _,
@@ -217,12 +221,12 @@ pub(crate) fn with_statement<'a>(
     scan: Scan<'a>,
     statement: Statement<'_, 'a>,
 ) -> Result<Scan<'a>, AllocError>
-    requires kept { AreKept scan.definitions.items }
+    requires kept { AreKept scan.definitions }
     requires fits { IsTakeable (state scan) (option_map form statement.form) }
     requires behind { IsBehind (state scan) statement }
     requires short { scan.count < most_statements }
     ensures value { IfOk result (λ s. state s ≡ after (state scan.entry) (option_map form statement.entry.form)) }
-    ensures kept { IfOk result (λ s. AreKept s.definitions.items) }
+    ensures kept { IfOk result (λ s. AreKept s.definitions) }
 {
     let next = with_form(alloc, scan, statement)?;
     Ok(counted(next))

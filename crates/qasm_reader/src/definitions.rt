@@ -1,29 +1,65 @@
 // The gates that are known behind definitions.
-ghost use Rattle.std.specs.Prelude.{◌≡◌, ◌≤◌, IfSome, IfNone, option_map};
+ghost use Rattle.std.specs.Prelude.{◌≡◌, ◌≤◌, ◌++◌, ◌∷◌, [], ℕ, List, Some, cond, OnOk, IfSome, IfNone, option_map};
+ghost use Rattle.std.specs.Str.{bytes_eq};
 ghost use Rattle.qasm_reader.specs.Limits.{most_qubits};
 ghost use Rattle.qasm_reader.specs.Known.{known};
-ghost use Rattle.qasm_reader.specs.View.{size_of, gates_of, known_behind, AreKept, IsDefinedAs, known_gate};
+ghost use Rattle.qasm_reader.specs.View.{size_of, gate_of, gates_of, place_of, IsKept, known_behind, AreKept, IsDefinedAs, known_gate};
 ghost use Rattle.tc_circuit.specs.Model.{t_count_of};
 
 use crate::circuits::t_count;
 use crate::gates::{Known, Size, known_by_name};
-use crate::scan::Defined;
+use crate::scan::{Defined, Definitions};
+use std::alloc::AllocError;
+use std::collections::BTreeMap;
 use tc_circuit::Gate;
 
-// The definition of the gate of the name, if it was defined.
-pub(crate) fn definition_of<'b, 'a>(list: &'b [Defined<'a>], name: &[u8]) -> Option<&'b Defined<'a>>
-    requires { AreKept list.now }
-    ensures none { IfNone result (known_behind known list.now name.now ≡ known name.now) }
-    ensures some { IfSome result (λ d. IsDefinedAs (known_behind known list.now name.now) d.now) }
+// The place of the definition of the name, if there is one.
+fn place_of<'a>(places: &BTreeMap<&'a [u8], usize>, name: &'a [u8]) -> Option<usize>
+    ensures { result ≡ place_of places.now name.now }
 {
-    let mut end = list.len();
-    'definitions: while end > 0 {
-        end -= 1;
-        if name == list[end].definition.name {
-            return Some(&list[end]);
-        }
+    places.get(&name).copied()
+}
+
+// The definition of the gate of the name, if it was defined.
+pub(crate) fn definition_of<'b, 'a>(
+    list: &'b Definitions<'a>,
+    name: &'a [u8],
+) -> Option<&'b Defined<'a>>
+    requires { AreKept list.now }
+    ensures none { IfNone result (known_behind known list.now.list.items name.now ≡ known name.now) }
+    ensures some { IfSome result (λ d. IsDefinedAs (known_behind known list.now.list.items name.now) d.now) }
+{
+    match place_of(&list.places, name) {
+        Some(place) => Some(&list.list[place]),
+        None => None,
     }
-    None
+}
+
+// Notes the place of a name.
+fn add_place<'a>(
+    places: &mut BTreeMap<&'a [u8], usize>,
+    name: &'a [u8],
+    place: usize,
+) -> Result<(), AllocError>
+    ensures { OnOk result ((other : List ℕ) → place_of places.new other ≡ cond (bytes_eq other name.now) (Some place) (place_of places.old other)) }
+{
+    places.insert(name, place)?;
+    Ok(())
+}
+
+// One definition more.
+pub(crate) fn push_definition<'a>(
+    list: &mut Definitions<'a>,
+    defined: Defined<'a>,
+) -> Result<(), AllocError>
+    requires kept { AreKept list.old }
+    requires fits { IsKept (gate_of (known_behind known list.old.list.items) defined) defined }
+    ensures items { OnOk result (list.new.list.items ≡ list.old.list.items ++ defined.entry ∷ []) }
+    ensures kept { OnOk result (AreKept list.new) }
+{
+    add_place(&mut list.places, defined.definition.name, list.list.len())?;
+    list.list.push(defined)?;
+    Ok(())
 }
 
 fn size_of(gate: Known) -> Size
@@ -47,9 +83,9 @@ fn first_size(name: &[u8]) -> Option<Size>
 }
 
 // The size of the gate of the name, if it is known.
-pub(crate) fn size_by_name(list: &[Defined], name: &[u8]) -> Option<Size>
+pub(crate) fn size_by_name<'a>(list: &Definitions<'a>, name: &'a [u8]) -> Option<Size>
     requires { AreKept list.now }
-    ensures { result ≡ option_map size_of (known_behind known list.now name.now) }
+    ensures { result ≡ option_map size_of (known_behind known list.now.list.items name.now) }
 {
     match definition_of(list, name) {
         Some(defined) => Some(defined.size),
@@ -68,10 +104,10 @@ fn first_gates(name: &[u8]) -> &'static [Gate]
 }
 
 // The gates of the gate of the name, which takes at most three arguments, on the numbers of these; none where it isn't known.
-pub(crate) fn gates_by_name<'b>(list: &'b [Defined], name: &[u8]) -> &'b [Gate]
+pub(crate) fn gates_by_name<'b, 'a>(list: &'b Definitions<'a>, name: &'a [u8]) -> &'b [Gate]
     requires kept { AreKept list.now }
-    requires narrow { IfSome (known_behind known list.now name.now) (λ g. g.arity ≤ most_qubits) }
-    ensures { result.now ≡ gates_of (known_behind known list.now name.now) }
+    requires narrow { IfSome (known_behind known list.now.list.items name.now) (λ g. g.arity ≤ most_qubits) }
+    ensures { result.now ≡ gates_of (known_behind known list.now.list.items name.now) }
 {
     match definition_of(list, name) {
         Some(defined) => &defined.gates,

@@ -21,7 +21,7 @@ use tc_circuit::Circuit;
 // The scan behind a statement to which no row applies.
 fn taken<'a>(alloc: Global, scan: Scan<'a>, ws: &[Lexeme<'a>]) -> Result<Scan<'a>, ReadFault>
     requires some { 0 < length ws.now }
-    requires kept { AreKept scan.definitions.items }
+    requires kept { AreKept scan.definitions }
     ensures ok { IfOk result (Takes (state scan.entry) (lexemes ws.now)) }
     ensures err { IfErr result (IsRowFault (state scan.entry) (lexemes ws.now)) }
 {

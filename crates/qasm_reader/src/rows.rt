@@ -251,15 +251,15 @@ fn is_withheld(name: &[u8]) -> bool
         || name == b"rz".as_slice()
 }
 
-fn is_known(scan: &Scan, name: &[u8]) -> bool
-    requires { AreKept scan.now.definitions.items }
+fn is_known<'a>(scan: &Scan<'a>, name: &'a [u8]) -> bool
+    requires { AreKept scan.now.definitions }
     ensures { result ≡ is_some ((state scan.now).known name.now) }
 {
     size_by_name(&scan.definitions, name).is_some()
 }
 
 fn is_taken<'a>(scan: &Scan<'a>, found: &Option<Form<'a>>) -> bool
-    requires { AreKept scan.now.definitions.items }
+    requires { AreKept scan.now.definitions }
     ensures { result ≡ is_taken (state scan.now) (option_map form found.now) }
 {
     match found {
@@ -373,7 +373,7 @@ const ORDER: [Refusal; 12] = [
 
 // Whether the row of a reason applies.
 fn applies<'a>(scan: &Scan<'a>, statement: &Statement<'_, 'a>, why: Refusal) -> bool
-    requires kept { AreKept scan.now.definitions.items }
+    requires kept { AreKept scan.now.definitions }
     requires behind { IsBehind (state scan.now) statement.now }
     ensures { result ≡ applies (state scan.now) (statement_of statement.now) why }
 {
@@ -397,7 +397,7 @@ fn applies<'a>(scan: &Scan<'a>, statement: &Statement<'_, 'a>, why: Refusal) -> 
 // The first row that applies, if one does.
 #[tactic(auto, unfolding(crate::specs::Rows::row_of))]
 pub(crate) fn first_row<'a>(scan: &Scan<'a>, statement: &Statement<'_, 'a>) -> Option<Refusal>
-    requires kept { AreKept scan.now.definitions.items }
+    requires kept { AreKept scan.now.definitions }
     requires behind { IsBehind (state scan.now) statement.now }
     ensures { result ≡ row_of (state scan.now) (statement_of statement.now) }
 {

@@ -7,7 +7,7 @@ ghost use Rattle.qasm_reader.specs.Limits.{most_qubits, most_t_gates, most_state
 
 use crate::forms::Definition;
 use crate::gates::Size;
-use std::collections::BTreeSet;
+use std::collections::{BTreeMap, BTreeSet};
 use tc_circuit::{Circuit, Gate};
 
 // A register of qubits: its first qubit, and how many it has.
@@ -28,12 +28,19 @@ pub(crate) struct Defined<'a> {
     pub gates: Vec<Gate>,
 }
 
+// The definitions so far in order, and the places of their names among them.
+#[derive(Drop)]
+pub(crate) struct Definitions<'a> {
+    pub list: Vec<Defined<'a>>,
+    pub places: BTreeMap<&'a [u8], usize>,
+}
+
 // There is a circuit once a gate was applied; its gates are those of the statements so far, and `t_count` counts their T gates.
 #[derive(Drop)]
 pub(crate) struct Scan<'a> {
     pub registers: Vec<Register<'a>>,
     pub names: BTreeSet<&'a [u8]>,
-    pub definitions: Vec<Defined<'a>>,
+    pub definitions: Definitions<'a>,
     pub qubits: u8,
     pub circuit: Option<Circuit>,
     pub t_count: usize,

@@ -28,8 +28,8 @@ pub(crate) struct Statement<'b, 'a> {
 }
 
 // The size of the gate that a form applies, if it is known.
-fn size_in(scan: &Scan, found: &Option<Form>) -> Option<Size>
-    requires { AreKept scan.now.definitions.items }
+fn size_in<'a>(scan: &Scan<'a>, found: &Option<Form<'a>>) -> Option<Size>
+    requires { AreKept scan.now.definitions }
     ensures { result ≡ option_map size_of (gate_in (state scan.now).known (option_map form found.now)) }
 {
     match found {
@@ -39,8 +39,12 @@ fn size_in(scan: &Scan, found: &Option<Form>) -> Option<Size>
 }
 
 // Whether a form defines a gate with a bad body.
-fn bad_body_in(alloc: Global, scan: &Scan, found: &Option<Form>) -> Result<bool, AllocError>
-    requires { AreKept scan.now.definitions.items }
+fn bad_body_in<'a>(
+    alloc: Global,
+    scan: &Scan<'a>,
+    found: &Option<Form<'a>>,
+) -> Result<bool, AllocError>
+    requires { AreKept scan.now.definitions }
     ensures { IfOk result (λ bad. bad ≡ has_bad_body_in (state scan.now) (option_map form found.now)) }
 {
     match found {
@@ -50,8 +54,8 @@ fn bad_body_in(alloc: Global, scan: &Scan, found: &Option<Form>) -> Result<bool,
 }
 
 // The size of the gate that a form defines.
-fn body_in(scan: &Scan, found: &Option<Form>) -> Size
-    requires { AreKept scan.now.definitions.items }
+fn body_in<'a>(scan: &Scan<'a>, found: &Option<Form<'a>>) -> Size
+    requires { AreKept scan.now.definitions }
     ensures { result ≡ counted_size (gate_defined (state scan.now) (option_map form found.now)) }
 {
     match found {
@@ -66,7 +70,7 @@ pub(crate) fn statement_behind<'b, 'a>(
     scan: &Scan<'a>,
     ws: &'b [Lexeme<'a>],
 ) -> Result<Statement<'b, 'a>, AllocError>
-    requires { AreKept scan.now.definitions.items }
+    requires { AreKept scan.now.definitions }
     ensures lexemes { IfOk result (λ p. p.lexemes.now ≡ ws.now) }
     ensures form { IfOk result (λ p. option_map form p.form ≡ form_of (lexemes ws.now)) }
     ensures behind { IfOk result (IsBehind (state scan.now)) }

@@ -633,10 +633,10 @@ fn chain(alloc: Global, first: &[u8], last: usize, times: usize) -> Result<Vec<u
     let mut text = text(alloc, 1, b"gate g0 a {")?;
     text.extend_from_slice(first)?;
     text.extend_from_slice(b" }\n")?;
-    for k in 1..last + 1 {
-        let head = format!(in alloc; "gate g{k} a {{")?;
+    for k in 0..last {
+        let head = format!(in alloc; "gate g{} a {{", k + 1)?;
         text.extend_from_slice(head.as_bytes())?;
-        let call = format!(in alloc; " g{} a;", k - 1)?;
+        let call = format!(in alloc; " g{k} a;")?;
         for _ in 0..times {
             text.extend_from_slice(call.as_bytes())?;
         }

@@ -9,6 +9,6 @@ use Rattle.qasm_reader.proofs.bodies.body_size.Given as goal
 
 abbrev pub invariant-loop-line : goal.invariant-loop-line
 invariant-loop-line l = record {
-  length : l.length ≡ min (length (flat_map (entry_gates (known_behind known l.list) (name_list l.definition.names.items)) (entries (take l.line-index l.definition.body.items)))) (most_gates_defined + 1);
-  t_count : l.t_count ≡ min (t_count_of (flat_map (entry_gates (known_behind known l.list) (name_list l.definition.names.items)) (entries (take l.line-index l.definition.body.items)))) (most_gates_defined + 1);
+  length : l.length ≡ min (length (flat_map (entry_gates (known_behind known l.list.list.items) (name_list l.definition.names.items)) (entries (take l.line-index l.definition.body.items)))) (most_gates_defined + 1);
+  t_count : l.t_count ≡ min (t_count_of (flat_map (entry_gates (known_behind known l.list.list.items) (name_list l.definition.names.items)) (entries (take l.line-index l.definition.body.items)))) (most_gates_defined + 1);
 }

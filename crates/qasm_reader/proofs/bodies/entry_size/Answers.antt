@@ -8,12 +8,12 @@ use Rattle.qasm_reader.proofs.bodies.entry_size.Goals as goal
 
 pub returns-in-Call-clause-few : goal.returns-in-Call-clause-few
 returns-in-Call-clause-few c =
-    let list = c.args.list.now in
-    let small = size_small (known_behind known list c.in-Call.name.now) (kept_few list c.requires c.in-Call.name.now) in
+    let list = c.args.list.now.list.items in
+    let small = size_small (known_behind known list c.in-Call.name.now) (kept_few list c.requires.list c.in-Call.name.now) in
     subst (λ (z : Size). z.length ≤ most_gates_defined) (sym (c.size_or_nothing.ensures ∙ ap size_or_nothing c.size_by_name.ensures)) small.0
 
 pub returns-in-Call-clause-low : goal.returns-in-Call-clause-low
 returns-in-Call-clause-low c =
-    let list = c.args.list.now in
-    let small = size_small (known_behind known list c.in-Call.name.now) (kept_few list c.requires c.in-Call.name.now) in
+    let list = c.args.list.now.list.items in
+    let small = size_small (known_behind known list c.in-Call.name.now) (kept_few list c.requires.list c.in-Call.name.now) in
     subst (λ (z : Size). z.t_count ≤ most_gates_defined) (sym (c.size_or_nothing.ensures ∙ ap size_or_nothing c.size_by_name.ensures)) small.1

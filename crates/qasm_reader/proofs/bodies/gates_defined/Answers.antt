@@ -8,7 +8,7 @@ use Rattle.qasm_reader.proofs.bodies.gates_defined.Goals as goal
 
 pub push_entry-requires-clause-good : goal.push_entry-requires-clause-good
 push_entry-requires-clause-good c =
-    let gates = known_behind known c.args.list.now in
+    let gates = known_behind known c.args.list.now.list.items in
     let among = name_list c.args.definition.now.names.items in
     let good = ap (λ (l : List _). list_any (is_bad_entry gates among) (map entry l)) c.deref-line-items.ensures.value ∙ c.requires.good in
     ap (λ l. is_bad_entry gates (name_list l) (entry c.line-item.result)) c.deref.ensures.value

@@ -9,7 +9,7 @@ use Rattle.qasm_reader.proofs.bodies.has_bad_body.Goals as goal
 
 pub returns-then-branch-2 : goal.returns-then-branch-2
 returns-then-branch-2 c =
-    let gates = known_behind known c.args.list.now in
+    let gates = known_behind known c.args.list.now.list.items in
     let definition = c.args.definition.now in
     let among = name_list definition.names.items in
     let seen : (other : List ℕ) → names c.in_ok-set.set other ≡ is_among among other =

@@ -10,20 +10,18 @@ use Rattle.qasm_reader.proofs.Places.{or_false}
 use Rattle.qasm_reader.proofs.Kept.{known-push, kept-push, kept_new}
 use Rattle.qasm_reader.proofs.declare.with_definition.Goals as goal
 
-pub returns-clause-value : goal.returns-clause-value
-returns-clause-value c =
-    let ds = c.args.scan.definitions.items in
-    let more = ap (known_behind known) c.in_ok-push.ensures.items ∙ known-push known ds (record { definition = c.args.definition; size = c.args.size; gates = c.in_ok-gates.gates }) in
-    ap (λ k. record (state c.args.scan) { known = k }) more
-
-pub returns-clause-kept : goal.returns-clause-kept
-returns-clause-kept c =
-    let ds = c.args.scan.definitions.items in
+pub push_definition-requires-clause-fits : goal.push_definition-requires-clause-fits
+push_definition-requires-clause-fits c =
+    let ds = c.args.scan.definitions.list.items in
     let definition = c.args.definition in
     let d : Defined = record { definition = definition; size = c.args.size; gates = c.in_ok-gates.gates } in
     let names : length (name_list definition.names.items) ≡ length definition.names.items = length-map definition.names.items (λ b. b.now) in
     let bad : has_bad_body (state c.args.scan) (Some (Define definition.name.now (name_list definition.names.items) (entries definition.body.items))) ≡ false = c.requires.fits.1 in
-    let gates : length definition.names.items ≤ most_qubits → d.gates.items ≡ (gate_of (known_behind known ds) d).gates =
-    λ few. c.in_ok-gates.ensures few ∙ ap (λ l. (gate_of (known_behind known l) d).gates) c.deref.ensures.value in
-    let is = kept_new ds d c.requires.kept (omega (arith, c.requires.fits.0, names)) c.requires.fits.2 (or_false _ _ bad).1 c.requires.size gates in
-    subst AreKept (sym c.in_ok-push.ensures.items) (kept-push known ds d c.requires.kept is)
+    let gates : length definition.names.items ≤ most_qubits → d.gates.items ≡ (gate_of (known_behind known ds) d).gates = λ few. c.in_ok-gates.ensures few in
+    kept_new ds d c.requires.kept.list (omega (arith, c.requires.fits.0, names)) c.requires.fits.2 (or_false _ _ bad).1 c.requires.size gates
+
+pub returns-clause-value : goal.returns-clause-value
+returns-clause-value c =
+    let ds = c.args.scan.definitions.list.items in
+    let more = ap (known_behind known) c.in_ok-push_definition.ensures.items ∙ known-push known ds (record { definition = c.args.definition; size = c.args.size; gates = c.in_ok-gates.gates }) in
+    ap (λ k. record (state c.args.scan) { known = k }) more

@@ -1,4 +1,4 @@
-use Rattle.std.proofs.Common.{◌≡◌, ◌+◌, ◌++◌, ◌≤◌, ℕ, List, Option, Some, arith, ap, ◌∙◌, sym, subst}
+use Rattle.std.proofs.Common.{◌≡◌, ◌+◌, ◌++◌, ◌≤◌, ℕ, List, Option, Some, arith, ap, ◌∙◌, sym, subst, refl}
 use Rattle.tc_circuit.specs.Circuit.{Gates}
 use Rattle.tc_circuit.specs.declared.circuit.Gate.{Gate}
 use Rattle.tc_circuit.specs.Model.{IsCircuit, t_count_of}
@@ -13,8 +13,7 @@ use Rattle.qasm_reader.proofs.declare.with_gates.Goals.{After-gates_by_name, Aft
 -- the gates that are pushed
 pushed : (c : After-gates_by_name) → gates_with c.args.size c.gates_by_name.result.now c.args.qubits.now ≡ gates_at ((state c.args.scan).known c.args.name.now) c.args.qubits.now
 pushed c =
-    pushed_gates ((state c.args.scan).known c.args.name.now) (known_behind known c.deref.result.now c.args.name.now) c.args.size c.gates_by_name.result.now c.args.qubits.now c.requires.is c.gates_by_name.ensures
-    (ap (λ l. known_behind known l c.args.name.now) c.deref.ensures.value)
+    pushed_gates ((state c.args.scan).known c.args.name.now) ((state c.args.scan).known c.args.name.now) c.args.size c.gates_by_name.result.now c.args.qubits.now c.requires.is c.gates_by_name.ensures refl
 
 pub push_gates-requires : goal.push_gates-requires
 push_gates-requires c =

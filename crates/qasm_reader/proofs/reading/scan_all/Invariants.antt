@@ -11,7 +11,7 @@ abbrev pub invariant-statements : goal.invariant-statements
 invariant-statements l = record {
   within : l.at ≤ length l.tokens;
   rest : scan start (stated (statements (of l.text l.tokens))) ≡ scan (state l.scan) (stated (statements (of l.text (drop l.at l.tokens))));
-  kept : AreKept l.scan.definitions.items;
+  kept : AreKept l.scan.definitions;
 }
 
 abbrev pub decreases-statements : goal.decreases-statements

@@ -19,7 +19,7 @@ pub with_statement-requires-clause-fits : goal.with_statement-requires-clause-fi
 with_statement-requires-clause-fits c =
     let p = c.in_ok-statement.statement in
     takeable (state c.args.scan) (lexemes p.lexemes.now) (option_map form p.form) (has p (lexemes c.args.ws.now) (ap lexemes c.in_ok-statement.ensures.lexemes) c.in_ok-statement.ensures.form)
-    (inside_is c.args.scan.qubits c.args.scan.registers.items c.args.scan.inside) c.args.scan.few (kept_sound c.args.scan.definitions.items c.requires.kept) (sym c.first_row.ensures ∙ c.in_default.is)
+    (inside_is c.args.scan.qubits c.args.scan.registers.items c.args.scan.inside) c.args.scan.few (kept_sound c.args.scan.definitions.list.items c.requires.kept.list) (sym c.first_row.ensures ∙ c.in_default.is)
 
 pub with_statement-requires-clause-short : goal.with_statement-requires-clause-short
 with_statement-requires-clause-short c = short_before (state c.args.scan) (statement_of c.in_ok-statement.statement) (sym c.first_row.ensures ∙ c.in_default.is)
