@@ -1,7 +1,7 @@
 -- A letter before a word has a channel with the least exponent, of which the number of divisions tells, and a label.
-use Rattle.std.proofs.Common.{◌≡◌, ◌≢◌, ℕ, zero, suc, ◌+◌, ◌-◌, ◌*◌, ◌^◌, ◌<◌, ◌≤◌, Bool, true, false, true≢false, List, [], ◌∷◌, ◌++◌, slice_index_or, refl, ap, sym, ◌∙◌, subst, arith}
+use Rattle.std.proofs.Common.{◌≡◌, ℕ, zero, suc, ◌+◌, ◌-◌, ◌*◌, ◌^◌, ◌<◌, ◌≤◌, Bool, false, List, ◌∷◌, refl, ap, sym, ◌∙◌, subst, arith}
 use Rattle.tc_ring.specs.Surds.{surd_times}
-use Rattle.channel_rep.specs.Tables.{SurdTable, ScaledTable, by_rotation, stepped, SameTable, IsBuiltOf, IsCircuitChannel}
+use Rattle.channel_rep.specs.Tables.{ScaledTable, by_rotation, stepped, SameTable, IsBuiltOf, IsCircuitChannel}
 use Rattle.channel_rep.specs.Rows.{rotated}
 use Rattle.channel_rep.specs.Words.{IsWord}
 use Rattle.channel_rep.proofs.Built.{root2_to, root2_to-add, built_more, built_same}

@@ -1,5 +1,5 @@
 -- From the sums of a word's columns to the mark of a letter before it.
-use Rattle.std.proofs.Common.{◌≡◌, ◌≢◌, ℕ, zero, suc, ◌+◌, ◌-◌, ◌*◌, ◌%◌, ◌^◌, ◌<◌, ◌≤◌, Bool, true, false, true≢false, List, [], ◌∷◌, length, slice_index, slice_index_or, refl, ap, sym, ◌∙◌, subst, inl, inr, arith}
+use Rattle.std.proofs.Common.{◌≡◌, ◌≢◌, ℕ, zero, suc, ◌+◌, ◌-◌, ◌*◌, ◌^◌, ◌<◌, ◌≤◌, Bool, true, false, true≢false, List, [], ◌∷◌, slice_index, slice_index_or, refl, ap, sym, ◌∙◌, subst, inl, inr, arith}
 use Rattle.std.specs.Prelude.{ℤ, pos, ◌+ℤ◌, ◌*ℤ◌, nat_abs, int_lt, nat_lt, if◌then◌else◌}
 use Rattle.std.proofs.Math.Nat.{pow-zero, pow-succ'}
 use Rattle.std.proofs.lemmas.Bool.{cases_lt, cond-true, lt-ltb}
@@ -20,7 +20,6 @@ use Rattle.label_laws.specs.Folds.{weights, weighed}
 use Rattle.label_laws.specs.Fronts.{halved}
 use Rattle.label_laws.specs.Totals.{column_power, placed_folds, tag_from}
 use Rattle.word_laws.specs.Divisions.{IsDivisionCount}
-use Rattle.quick_label.specs.Blocks.{block_rows}
 use Rattle.quick_label.specs.FrontRooms.{AreFrontSums, AreHalves, AreLedBy}
 use Rattle.quick_label.specs.Fronts.{IsFront}
 use Rattle.quick_label.specs.Numbers.{column_number, high_weights, low_weights}

@@ -1,6 +1,5 @@
 -- What a suffix and a letter before it give to the steps of a quick mark.
 use Rattle.std.proofs.Common.{◌≡◌, ◌≢◌, ℕ, ◌+◌, ◌^◌, ◌<◌, ◌≤◌, Bool, false, List, ◌∷◌, length, slice_index_or, sym, ◌∙◌, subst}
-use Rattle.pauli_basis.specs.Products.{product_code}
 use Rattle.channel_rep.specs.Cells.{table_of, scaled}
 use Rattle.channel_rep.specs.Rows.{rotated}
 use Rattle.coset_label.proofs.WordChannels.{word_circuit}

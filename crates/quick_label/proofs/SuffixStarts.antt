@@ -1,6 +1,6 @@
 -- What a suffix keeps of the empty word.
-use Rattle.std.proofs.Common.{◌≡◌, ℕ, ◌^◌, ◌<◌, ◌≤◌, inl, List, [], ap, sym, subst, arith}
-use Rattle.channel_rep.specs.Cells.{ChannelGrid, table_of, scaled}
+use Rattle.std.proofs.Common.{◌≡◌, ℕ, ◌^◌, ◌<◌, ◌≤◌, inl, [], sym, subst, arith}
+use Rattle.channel_rep.specs.Cells.{table_of, scaled}
 use Rattle.channel_rep.specs.Tables.{IsBuiltOf}
 use Rattle.coset_label.specs.Words.{RotationWord}
 use Rattle.quick_label.specs.Columns.{HoldsColumns}

@@ -1,6 +1,5 @@
 -- Tables whose columns can be told by their numbers.
 use Rattle.std.specs.Prelude.{◌≡◌, ◌≢◌, ℕ, ◌^◌, ◌<◌, ◌≤◌, nat_abs, Bool, true, false, List, length}
-use Rattle.pauli_basis.specs.Products.{product_code}
 use Rattle.tc_ring.specs.Surds.{Surd, zero_surd}
 use Rattle.channel_rep.specs.Tables.{SurdTable}
 use Rattle.quick_label.specs.Blocks.{in_block}

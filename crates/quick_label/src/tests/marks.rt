@@ -1,12 +1,26 @@
-ghost use Rattle.std.specs.Prelude.{◌≡◌, ◌≢◌, ◌<◌, length};
-ghost use Rattle.coset_label.specs.Words.{most_letters};
+ghost use Rattle.std.specs.Prelude.{◌≡◌, ◌<◌, ◌≤◌};
 
 use super::words::{letter, room, word};
 use crate::Suffix;
 use coset_label::{Scratch, Word, label_of_word};
 use coset_words::{Mark, mark_of};
-use pauli_basis::Pauli;
+use std::alloc::Global;
 use std::test::Fail;
+
+/// The mark of a word with a letter before it.
+fn mark_before(alloc: Global, n: u8, codes: &[u8], code: u8) -> Result<Mark, Fail>
+    requires some { 0 < n }
+    requires few { n ≤ 3 }
+{
+    let mut suffix = Suffix::new(alloc, n)?;
+    let mut label = Scratch::new(alloc, n)?;
+    let w = word(n, codes)?;
+    suffix.turn_to(w);
+    if suffix.word() != w {
+        return Err(Fail::from("another word"));
+    }
+    Ok(suffix.mark_with(letter(n, code)?, &mut label))
+}
 
 #[test]
 fn letters_before_words_have_these_marks(rt: HostRuntime) -> Result<(), Fail> {
@@ -25,12 +39,7 @@ fn letters_before_words_have_these_marks(rt: HostRuntime) -> Result<(), Fail> {
     ];
     for (n, codes, code, exponent, tag) in rows {
         if 0 < n && n <= 3 {
-            let mut suffix = Suffix::new(rt.alloc(), n)?;
-            let mut label = Scratch::new(rt.alloc(), n)?;
-            let w = word(n, codes)?;
-            suffix.turn_to(w);
-            let mark = suffix.mark_with(letter(n, code)?, &mut label);
-            assert!(rt; suffix.word() == w);
+            let mark = mark_before(rt.alloc(), n, codes, code)?;
             assert_eq!(rt; mark.exponent, exponent, "{code} before {codes:?}");
             assert_eq!(rt; mark.tag, tag, "{code} before {codes:?}");
         }
@@ -80,7 +89,12 @@ impl Seen {
 }
 
 /// Makes the marks of all letters before a word, and again by the labels of the longer words.
-fn look_before(suffix: &mut Suffix, w: Word, label: &mut Scratch, seen: Seen) -> Result<Seen, &'static str>
+fn look_before(
+    suffix: &mut Suffix,
+    w: Word,
+    label: &mut Scratch,
+    seen: Seen,
+) -> Result<Seen, &'static str>
     requires word { w.qubits ≡ suffix.old.qubits }
     requires label { label.old.qubits ≡ suffix.old.qubits }
     ensures suffix { suffix.new.qubits ≡ suffix.old.qubits }
@@ -104,18 +118,30 @@ fn look_before(suffix: &mut Suffix, w: Word, label: &mut Scratch, seen: Seen) ->
     Ok(more)
 }
 
+/// Looks before words on so many qubits, given by the codes of their letters.
+fn look_before_words(alloc: Global, n: u8, words: &[[u8; 8]]) -> Result<Seen, Fail>
+    requires some { 0 < n }
+    requires few { n ≤ 3 }
+{
+    let mut suffix = Suffix::new(alloc, n)?;
+    let mut label = Scratch::new(alloc, n)?;
+    let mut seen = Seen::nothing();
+    for codes in words {
+        seen = look_before(&mut suffix, word(n, codes)?, &mut label, seen)?;
+    }
+    Ok(seen)
+}
+
 #[test]
 fn letters_before_short_words_have_marks_of_labels(rt: HostRuntime) -> Result<(), Fail> {
     // All words of up to two letters on two qubits.
-    let mut suffix = Suffix::new(rt.alloc(), 2)?;
-    let mut label = Scratch::new(rt.alloc(), 2)?;
-    let mut seen = Seen::nothing();
-    for number in 0..=255u8 {
-        let codes = [number / 16, number % 16];
-        seen = look_before(&mut suffix, word(2, &codes)?, &mut label, seen)?;
-        assert!(rt; !seen.other, "before {codes:?}");
+    let mut words = [[0u8; 8]; 256];
+    for number in 0..256usize {
+        words[number] = [(number / 16) as u8, (number % 16) as u8, 0, 0, 0, 0, 0, 0];
     }
+    let seen = look_before_words(rt.alloc(), 2, &words)?;
     assert_eq!(rt; seen.letters, 3840);
+    assert!(rt; !seen.other);
     assert!(rt; !seen.slow);
     assert!(rt; seen.fallen & seen.same & seen.risen);
     Ok(())
@@ -129,7 +155,7 @@ fn next(random: u64) -> u64 {
 }
 
 /// Codes of up to three letters on three qubits. Often the last is that of the first letter, or of its product with the second.
-fn short_codes(random: u64) -> [u8; 3] {
+fn short_codes(random: u64) -> [u8; 8] {
     let high = random / 0x1_0000_0000;
     let first = (high % 64) as u8;
     let second = (high / 64 % 64) as u8;
@@ -138,24 +164,20 @@ fn short_codes(random: u64) -> [u8; 3] {
         1 => first ^ second,
         _ => (high / 16384 % 64) as u8,
     };
-    [first, second, third]
+    [first, second, third, 0, 0, 0, 0, 0]
 }
 
 #[test]
-fn letters_before_words_on_three_qubits_have_marks_of_labels(
-    rt: HostRuntime,
-) -> Result<(), Fail> {
-    let mut suffix = Suffix::new(rt.alloc(), 3)?;
-    let mut label = Scratch::new(rt.alloc(), 3)?;
-    let mut seen = Seen::nothing();
+fn letters_before_words_on_three_qubits_have_marks_of_labels(rt: HostRuntime) -> Result<(), Fail> {
+    let mut words = [[0u8; 8]; 40];
     let mut random = 1;
-    for _ in 0..40u8 {
+    for place in 0..40usize {
         random = next(random);
-        let codes = short_codes(random);
-        seen = look_before(&mut suffix, word(3, &codes)?, &mut label, seen)?;
-        assert!(rt; !seen.other, "before {codes:?}");
+        words[place] = short_codes(random);
     }
+    let seen = look_before_words(rt.alloc(), 3, &words)?;
     assert_eq!(rt; seen.letters, 2520);
+    assert!(rt; !seen.other);
     assert!(rt; !seen.slow);
     assert!(rt; seen.fallen & seen.same & seen.risen);
     Ok(())
@@ -179,17 +201,15 @@ fn long_codes(random: u64) -> [u8; 8] {
 
 #[test]
 fn letters_before_long_words_have_marks_of_labels(rt: HostRuntime) -> Result<(), Fail> {
-    let mut suffix = Suffix::new(rt.alloc(), 1)?;
-    let mut label = Scratch::new(rt.alloc(), 1)?;
-    let mut seen = Seen::nothing();
+    let mut words = [[0u8; 8]; 200];
     let mut random = 1;
-    for _ in 0..200u8 {
+    for place in 0..200usize {
         random = next(random);
-        let codes = long_codes(random);
-        seen = look_before(&mut suffix, word(1, &codes)?, &mut label, seen)?;
-        assert!(rt; !seen.other, "before {codes:?}");
+        words[place] = long_codes(random);
     }
+    let seen = look_before_words(rt.alloc(), 1, &words)?;
     assert_eq!(rt; seen.letters, 600);
+    assert!(rt; !seen.other);
     assert!(rt; seen.slow);
     assert!(rt; seen.fallen & seen.risen);
     Ok(())

@@ -1,4 +1,4 @@
-use Rattle.std.proofs.Common.{◌≡◌, ◌≢◌, ℕ, ◌+◌, ◌*◌, ◌^◌, ◌<◌, ◌≤◌, ℤ, pos, nat_abs, Bool, true, List, length, slice_index, slice_index_or}
+use Rattle.std.proofs.Common.{◌≡◌, ◌≢◌, ℕ, ◌+◌, ◌*◌, ◌^◌, ◌<◌, ◌≤◌, pos, nat_abs, Bool, true, List, length, slice_index, slice_index_or}
 use Rattle.quick_label.specs.Blocks.{block_rows}
 use Rattle.quick_label.specs.Rooms.{AreBlocks}
 use Rattle.quick_label.proofs.front.find_leads.Given as goal

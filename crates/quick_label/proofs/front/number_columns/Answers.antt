@@ -1,4 +1,4 @@
-use Rattle.std.proofs.Common.{◌≡◌, ℕ, ◌<◌, ℤ, pos, ◌∙◌, arith, rules, SFits}
+use Rattle.std.proofs.Common.{◌≡◌, pos, ◌∙◌, arith, rules, SFits}
 use Rattle.std.specs.Int.{w128}
 use Rattle.std.proofs.lemmas.Int.{to_z-of_z}
 use Rattle.quick_label.proofs.SetOne.{one_more}

@@ -1,4 +1,4 @@
-use Rattle.std.proofs.Common.{◌≡◌, ℕ, ◌^◌, ◌<◌, length, sym, ◌∙◌, subst}
+use Rattle.std.proofs.Common.{◌^◌, ◌<◌, sym, subst}
 use Rattle.label_laws.specs.Sparse.{AreWeights}
 use Rattle.quick_label.specs.Weights.{before_letter}
 use Rattle.quick_label.proofs.Closed.{closed_by}

@@ -1,4 +1,4 @@
-use Rattle.std.proofs.Common.{◌≡◌, ℕ, ◌^◌, length, ap, sym, ◌∙◌, subst}
+use Rattle.std.proofs.Common.{◌^◌, length, ap, sym, ◌∙◌, subst}
 use Rattle.std.proofs.lemmas.List.{with_items_is}
 use Rattle.label_laws.specs.Folds.{weights}
 use Rattle.label_laws.specs.Sparse.{AreWeights}

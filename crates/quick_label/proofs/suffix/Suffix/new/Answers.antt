@@ -2,8 +2,8 @@ use Rattle.std.proofs.Common.{◌^◌, ◌∙◌, [], ap, sym, subst}
 use Rattle.std.proofs.lemmas.List.{take_at}
 use Rattle.channel_rep.specs.Cells.{ChannelGrid, table_of, scaled}
 use Rattle.channel_rep.specs.Tables.{IsBuiltOf}
-use Rattle.quick_label.specs.Columns.{StoredColumns, HoldsColumns}
-use Rattle.quick_label.specs.ParityWords.{ParityWords, HoldsParities}
+use Rattle.quick_label.specs.Columns.{HoldsColumns}
+use Rattle.quick_label.specs.ParityWords.{HoldsParities}
 use Rattle.quick_label.specs.Spans.{AreSpan}
 use Rattle.quick_label.proofs.SuffixStarts.{suffix_starts}
 use Rattle.quick_label.proofs.suffix.Suffix.new.Goals as goal
