@@ -1,8 +1,8 @@
 ghost use Rattle.std.specs.Prelude.{◌≡◌, ◌<◌, length};
 ghost use Rattle.quick_label.specs.Rooms.{MarksSubspace};
 
-use crate::spans::{empty_span, widen};
 use crate::blocks::Blocks;
+use crate::spans::{empty_span, widen};
 use crate::turns::Turns;
 use crate::weights::Weights;
 use std::alloc::{AllocError, Global};
