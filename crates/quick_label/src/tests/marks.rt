@@ -169,14 +169,14 @@ fn short_codes(random: u64) -> [u8; 8] {
 
 #[test]
 fn letters_before_words_on_three_qubits_have_marks_of_labels(rt: HostRuntime) -> Result<(), Fail> {
-    let mut words = [[0u8; 8]; 40];
+    let mut words = [[0u8; 8]; 100];
     let mut random = 1;
-    for place in 0..40usize {
+    for place in 0..100usize {
         random = next(random);
         words[place] = short_codes(random);
     }
     let seen = look_before_words(rt.alloc(), 3, &words)?;
-    assert_eq!(rt; seen.letters, 2520);
+    assert_eq!(rt; seen.letters, 6300);
     assert!(rt; !seen.other);
     assert!(rt; !seen.slow);
     assert!(rt; seen.fallen & seen.same & seen.risen);
