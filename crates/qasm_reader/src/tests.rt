@@ -314,7 +314,7 @@ fn circuits_are_read(rt: HostRuntime) {
 }
 
 // How many qubits the head declares, the lines behind it, the number of the refusal, and its place.
-const REFUSALS: [(usize, &[u8], u8, usize); 153] = [
+const REFUSALS: [(usize, &[u8], u8, usize); 91] = [
     // No header.
     (0, b"", 1, 0),
     (0, b" // nothing", 1, 11),
@@ -419,6 +419,22 @@ const REFUSALS: [(usize, &[u8], u8, usize); 153] = [
     (0, b"OPENQASM 2.0;\nqreg q[99999999999999999999];", 8, 14),
     (2, b"creg c[1]; qreg r[2];", 8, 36),
     (0, b"OPENQASM 2.0;\n", 8, 14),
+];
+
+#[test]
+fn texts_are_refused(rt: HostRuntime) {
+    for (head, lines, number, place) in REFUSALS {
+        let text = text(rt.alloc(), head, lines).expect(&rt, "memory");
+        assert_eq!(rt;
+            refusal(rt.alloc(), &text),
+            Some((number, place)),
+            "at {lines:?}"
+        );
+    }
+}
+
+// Refusals of texts with definitions, told likewise.
+const REFUSED_DEFINITIONS: [(usize, &[u8], u8, usize); 62] = [
     // Definitions without their end or of no form.
     (1, b"gate", 3, 25),
     (1, b"gate g a { h a;", 3, 25),
@@ -489,8 +505,8 @@ const REFUSALS: [(usize, &[u8], u8, usize); 153] = [
 ];
 
 #[test]
-fn texts_are_refused(rt: HostRuntime) {
-    for (head, lines, number, place) in REFUSALS {
+fn definitions_are_refused(rt: HostRuntime) {
+    for (head, lines, number, place) in REFUSED_DEFINITIONS {
         let text = text(rt.alloc(), head, lines).expect(&rt, "memory");
         assert_eq!(rt;
             refusal(rt.alloc(), &text),
