@@ -2,6 +2,7 @@ pub mod SortedColumns
 pub mod FrontsExist
 pub mod ColumnParts
 pub mod ColumnSums
+pub mod CellSums
 pub mod HeldParities
 pub mod ParityBits
 pub mod SetOne

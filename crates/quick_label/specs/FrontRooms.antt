@@ -13,7 +13,9 @@ pub record IsFrontRoom (n : ℕ) (f : Front) : Type 0 where
   pub span : length f.span.items ≡ 4 ^ n
   pub blocks : f.blocks.size ≡ 4 ^ n
   pub behind : length f.behind.wholes ≡ 4 ^ n
-  pub before : length f.before.wholes ≡ 4 ^ n
+  pub fold_before : length f.fold_before.wholes ≡ 4 ^ n
+  pub high_before : length f.high_before.wholes ≡ 4 ^ n
+  pub low_before : length f.low_before.wholes ≡ 4 ^ n
   pub folds : length f.folds.items ≡ 4 ^ n
   pub highs : length f.highs.items ≡ 4 ^ n
   pub lows : length f.lows.items ≡ 4 ^ n

@@ -13,3 +13,4 @@ pub mod Letters
 pub mod Places
 pub mod FrontRooms
 pub mod Suffixes
+pub mod Sums

@@ -17,10 +17,13 @@ pub struct Front {
     /// The span of the letter and the word.
     pub span: Vec<bool>,
     pub blocks: Blocks,
-    /// Weights behind the letter, and before it.
+    /// The weights of digits behind the letter.
     pub behind: Weights,
-    pub before: Weights,
-    /// The sums of the word's columns by the weights of the fold, of the high digits and of the low ones.
+    /// The weights before the letter that make the sums behind it, by those of the fold, of the high digits and of the low ones.
+    pub fold_before: Weights,
+    pub high_before: Weights,
+    pub low_before: Weights,
+    /// The sums of the word's columns by these weights.
     pub folds: Vec<u64>,
     pub highs: Vec<u64>,
     pub lows: Vec<u64>,
@@ -41,7 +44,9 @@ impl Front {
             span: vec![in alloc; false; size]?,
             blocks: Blocks::new(alloc, n)?,
             behind: Weights::new(alloc, n)?,
-            before: Weights::new(alloc, n)?,
+            fold_before: Weights::new(alloc, n)?,
+            high_before: Weights::new(alloc, n)?,
+            low_before: Weights::new(alloc, n)?,
             folds: vec![in alloc; 0u64; size]?,
             highs: vec![in alloc; 0u64; size]?,
             lows: vec![in alloc; 0u64; size]?,

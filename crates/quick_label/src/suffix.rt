@@ -7,7 +7,7 @@ ghost use Rattle.coset_words.specs.Marks.{IsMarkOf};
 ghost use Rattle.label_laws.specs.Folds.{weights};
 ghost use Rattle.label_laws.specs.Sparse.{AreWeights};
 ghost use Rattle.quick_label.specs.Columns.{HoldsColumns};
-ghost use Rattle.quick_label.specs.FrontRooms.{IsFrontRoom, AreColumnSums, AreFrontSums};
+ghost use Rattle.quick_label.specs.FrontRooms.{IsFrontRoom, AreFrontSums};
 ghost use Rattle.quick_label.specs.Rooms.{AreBlocks};
 ghost use Rattle.quick_label.specs.Spans.{AreSpan};
 ghost use Rattle.quick_label.specs.Weights.{before_letter, IsLetterOf};
@@ -93,34 +93,26 @@ fn most_exponent_behind(divisions: u8) -> u32
     if divisions > 0 { 5 } else { 6 }
 }
 
-/// Writes the sums of the word's columns by the weights before a letter that make those behind it by given weights. `before` is
-/// room for them.
-fn weigh_before(
+/// Makes the weights before a letter that make sums behind it by given weights.
+fn take_before(
     n: u8,
-    columns: &Columns,
     weights: &Weights,
     commuting: &[bool],
     negative: &[bool],
     p: usize,
     divisions: u8,
     before: &mut Weights,
-    sums: &mut [u64],
 )
-    requires columns { columns.now.size ≡ 4 ^ n }
     requires weights { length weights.now.wholes ≡ 4 ^ n }
     requires letter { p < 4 ^ n }
     requires commuting { length commuting.now ≡ 4 ^ n }
     requires negative { length negative.now ≡ 4 ^ n }
     requires before { length before.old.wholes ≡ 4 ^ n }
-    requires sums { length sums.old ≡ 4 ^ n }
-    ensures before { length before.new.wholes ≡ 4 ^ n }
-    ensures long { length sums.new ≡ 4 ^ n }
-    ensures sums { (m w : SurdTable) → IsLetterOf n p commuting.now negative.now → HoldsColumns (4 ^ n) m columns.now
-        → AreWeights (4 ^ n) w weights.now.wholes weights.now.parts
-        → AreColumnSums (4 ^ n) (before_letter n p divisions w) m sums.new }
+    ensures long { length before.new.wholes ≡ 4 ^ n }
+    ensures are { (w : SurdTable) → IsLetterOf n p commuting.now negative.now → AreWeights (4 ^ n) w weights.now.wholes weights.now.parts
+        → AreWeights (4 ^ n) (before_letter n p divisions w) before.new.wholes before.new.parts }
 {
     before.take_before(weights, commuting, negative, p, divisions);
-    weigh_columns(columns, before.wholes(), before.parts(), sums);
 }
 
 /// Writes the sums of the word's columns, by the weights of the fold and of the digits before a letter.
@@ -147,39 +139,42 @@ fn weigh_front(
         → AreWeights (4 ^ n) (weights (4 ^ n)) fold.now.wholes fold.now.parts → AreBlocks (4 ^ n) span front.old.blocks
         → AreFrontSums n p divisions span m front.new.folds.items front.new.highs.items front.new.lows.items }
 {
-    weigh_before(
+    take_before(
         n,
-        columns,
         fold,
         commuting,
         negative,
         p,
         divisions,
-        &mut front.before,
-        &mut front.folds,
+        &mut front.fold_before,
     );
     front.behind.take_high(&front.blocks);
-    weigh_before(
+    take_before(
         n,
-        columns,
         &front.behind,
         commuting,
         negative,
         p,
         divisions,
-        &mut front.before,
-        &mut front.highs,
+        &mut front.high_before,
     );
     front.behind.take_low(&front.blocks);
-    weigh_before(
+    take_before(
         n,
-        columns,
         &front.behind,
         commuting,
         negative,
         p,
         divisions,
-        &mut front.before,
+        &mut front.low_before,
+    );
+    weigh_columns(
+        columns,
+        &front.fold_before,
+        &front.high_before,
+        &front.low_before,
+        &mut front.folds,
+        &mut front.highs,
         &mut front.lows,
     );
 }
