@@ -20,7 +20,9 @@ fn columns_have_these_sums(rt: HostRuntime) -> Result<(), Fail> {
     let none = Weights::new(rt.alloc(), 1)?;
     let (mut folds, mut highs, mut lows) = ([0; 4], [1; 4], [2; 4]);
     if columns.size() == 4 {
-        weigh_columns(&columns, &fold, &none, &fold, &mut folds, &mut highs, &mut lows);
+        weigh_columns(
+            &columns, &fold, &none, &fold, &mut folds, &mut highs, &mut lows,
+        );
         let expected = [sixth, fifth.wrapping_add(cube), cube.wrapping_sub(fifth), 1];
         assert_eq!(rt; folds, expected);
         assert_eq!(rt; highs, [0; 4]);
