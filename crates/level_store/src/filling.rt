@@ -11,6 +11,7 @@ ghost use Rattle.level_store.specs.Stored.{qubits_of_all, levels_of, letters_in,
 use crate::hand::{Hand, hands_of, seats_of};
 use crate::level::Level;
 use crate::levels::Levels;
+use crate::repeat::comes_again;
 use channel_rep::Narrow;
 use coset_label::Word;
 use coset_table::{Buckets, OpenTable, start_table};
@@ -45,8 +46,13 @@ impl<'a> Job<Hand> for Filling<'a> {
 
     ghost name = { λ job hand. numbers_of hand.seat };
 
+    /// Offers the candidate of a position, unless its coset stands in one of the two levels below. A letter that comes again
+    /// tells so without a mark.
     fn turn(&self, local: &mut Hand, position: u64) {
         let (letter, word) = self.levels.parts_at(position);
+        if comes_again(letter, word) {
+            return;
+        }
         local.suffix.turn_to(word);
         let mark = local.suffix.mark_with(letter, &mut local.label);
         let candidate = word.push_front(letter);
