@@ -6,7 +6,7 @@ use Rattle.tc_circuit.specs.Gate as circuit
 use Rattle.tc_circuit.specs.Model.{ScaledMatrix}
 use Rattle.tc_circuit.specs.declared.circuit.Gate.{Gate}
 use Rattle.pauli_basis.specs.Products.{commute}
-use Rattle.channel_rep.specs.Tables.{ScaledTable, built, SameTable}
+use Rattle.channel_rep.specs.Tables.{built, SameTable}
 use Rattle.channel_rep.specs.Words.{IsWord}
 use Rattle.channel_rep.specs.Products.{table_product}
 use Rattle.channel_rep.proofs.Built.{same_table_sym, same_table_trans}
