@@ -21,6 +21,7 @@ pub mod LetterRows
 pub mod QuickMarks
 pub mod WeightRows
 pub mod CountedPlaces
+pub mod Runs
 pub mod Closed
 pub mod SuffixWords
 pub mod SuffixStarts

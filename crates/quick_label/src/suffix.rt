@@ -267,7 +267,6 @@ impl Suffix {
         find_places(
             &front.numbers,
             &front.leads,
-            &front.blocks,
             &mut front.places,
         );
         let sum = placed_sum(0, &front.folds, &front.numbers, &front.places, &self.powers);

@@ -115,7 +115,7 @@ returns-clause-mark c =
     (λ x y z halves column l. c.number_columns.ensures.numbers x y z
     (subst (λ t. t) (λ i. AreHalves (sym size i) (sym c.deref-3.ensures.value i) (sym c.deref-4.ensures.value i) (nat_lt 0 d) x y z) halves) column (subst (λ k. column < k) (sym size) l))
     leads led places
-    (λ m packable are lead. c.find_places.ensures.places n span m (ap length numbers_placed ∙ c.number_columns.ensures.long ∙ size) packable blocks_after
+    (λ m packable are lead. c.find_places.ensures.places n span m (ap length numbers_placed ∙ c.number_columns.ensures.long ∙ size) packable
     (subst (AreColumnNumbers n span m) (sym numbers_placed) are) (subst (AreLeadRows n m) (sym leads_placed) lead))
     c.placed_sum-sum.result
     (λ m z signs placed folds. c.placed_sum-sum.ensures n m z (ap length c.deref-8.ensures.value ∙ room.folds) (subst (ArePlacePowers n) (sym c.deref-11.ensures.value) inv.constants.powers)
