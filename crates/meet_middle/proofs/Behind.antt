@@ -55,17 +55,17 @@ pub record TellsExponent (now : ChannelGrid) (p divisions e : ℕ) : Type 0 wher
   pub near : now.exponent ≤ e + 1 - divisions + 1
   pub least : IsLeastExponentOf now.qubits (removed now.qubits (scaled now) (p ∷ [])) (e + 1 - divisions)
 
-pub told : (m now : ChannelGrid) (words : ParityWords) (held : HeldTurns) → IsRemainder m words held → m ≡ now
+pub told : (m now : ChannelGrid) (words : ParityWords) (held : HeldTurns) → IsRemainder m words → m ≡ now → held.qubits ≡ now.qubits
     → (q p code : ℕ) → q ≡ now.qubits → code ≡ p → code < 4 ^ q → p ≢ 0 → IsCircuitChannel now.qubits (scaled now)
     → (commuting : List Bool) → ((row : ℕ) → row < 4 ^ held.qubits → slice_index_or commuting row false ≡ commute held.qubits code row)
     → (divisions : ℕ)
     → ((n : ℕ) (inverse : Bool) (t : SurdTable) → HoldsParities n t words → ((row : ℕ) → row < 4 ^ n → slice_index_or commuting row false ≡ commute n p row) → IsDivisionCount n (rotated n inverse p t) divisions)
     → (e : ℕ) → e ≡ m.exponent → TellsExponent now p divisions e
-told m now words held is view q p code own d below other circuit commuting rows divisions counts e read =
+told m now words held is view turns q p code own d below other circuit commuting rows divisions counts e read =
     let n = m.qubits in
     let low : p < 4 ^ n = subst (λ k. p < 4 ^ k) (own ∙ sym (ap (λ c. c.qubits) view)) (subst (λ k. k < 4 ^ q) d below) in
     let here : IsCircuitChannel n (scaled m) = subst (λ c. IsCircuitChannel c.qubits (scaled c)) (sym view) circuit in
-    let count = counts n true (table_of m) is.parities (commuting_rows n held.qubits p code commuting is.turns d rows) in
+    let count = counts n true (table_of m) is.parities (commuting_rows n held.qubits p code commuting (turns ∙ sym (ap (λ c. c.qubits) view)) d rows) in
     let fit = divisions_fit n is.some is.few p (low, other) (scaled m) here divisions count in
     let least = exponent_told n is.some is.few p (low, other) (scaled m) here divisions count (reduced_least m is.reduced) in
     record {

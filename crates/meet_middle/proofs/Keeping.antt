@@ -1,5 +1,5 @@
 -- What a worker keeps is told by its cells.
-use Rattle.std.proofs.Common.{◌≡◌, ℕ, ◌^◌, ◌<◌, Bool, refl, ap}
+use Rattle.std.proofs.Common.{◌≡◌, ℕ, ◌^◌, ◌<◌, Bool, true, List, refl, ap}
 use Rattle.std.specs.Bool.{Decides}
 use Rattle.std.proofs.lemmas.Bool.Decides.{Decides-like, Decides-and, Decides-int_eq, Decides-below_and}
 use Rattle.ring_laws.specs.Ring.{power}
@@ -7,6 +7,8 @@ use Rattle.tc_ring.specs.Surds.{Surd, surds, surd_times, root2_surd}
 use Rattle.tc_ring.proofs.Surds.{same_surd as surds_same}
 use Rattle.channel_rep.specs.Tables.{ScaledTable, SameTable}
 use Rattle.coset_label.specs.Decided.{at_all, same_surd}
+use Rattle.level_laws.specs.Levels.{removed, undo}
+use Rattle.level_laws.proofs.Inverses.{built_on_same}
 use Rattle.meet_middle.specs.Kept.{same_table}
 
 surd_decided : (x y : Surd) → Decides (same_surd x y) (x ≡ y)
@@ -23,3 +25,7 @@ same_table_decided n a b =
     λ row. Decides-below_and (cell row) (λ column. left row column ≡ right row column) (at_all (cell row)) (λ column. surd_decided (left row column) (right row column)) refl (λ _. refl) (4 ^ n) in
     Decides-like (at_all (λ row. at_all (cell row) (4 ^ n)) (4 ^ n)) (λ h row column l m. h row l column m) (λ h row l column m. h row column l m)
     (Decides-below_and (λ row. at_all (cell row) (4 ^ n)) row_same (at_all (λ row. at_all (cell row) (4 ^ n))) one refl (λ _. refl) (4 ^ n))
+
+-- a word taken off the target that is kept, and off the target itself
+pub kept_removed : (n : ℕ) (kept target : ScaledTable) → same_table n kept target ≡ true → (word : List ℕ) → SameTable n (removed n kept word) (removed n target word)
+kept_removed n kept target e word = built_on_same n (undo word) kept target ((same_table_decided n kept target).0 e)

@@ -3,6 +3,9 @@ pub mod Few
 pub mod Halving
 pub mod Keeping
 pub mod Numbers
+pub mod Passing
 pub mod Removing
 pub mod Resting
+pub mod Splitting
 pub mod Totals
+pub mod Trailing

@@ -1,8 +1,12 @@
 -- The word of a number, and words that are compared.
-use Rattle.std.proofs.Common.{◌≡◌, ℕ, ◌^◌, ◌<◌, ◌&&◌, true, nat_eq, List, [], Some, All, length, slice_get, slice_index_or, ap, sym, ◌∙◌, subst}
+use Rattle.std.proofs.Common.{◌≡◌, ℕ, ◌^◌, ◌<◌, ◌&&◌, Bool, true, false, true≢false, not, nat_eq, refl, arith, List, [], Some, All, length, slice_get, slice_index_or, ap, sym, ◌∙◌, subst}
 use Rattle.std.proofs.lemmas.List.{get_or-map}
 use Rattle.std.proofs.lemmas.Option.{get_or_from_slice_get}
+use Rattle.std.proofs.lemmas.Bool.{and_parts, eqb-true}
 use Rattle.std.proofs.lemmas.Bool.Decides.{Decides-and, Decides-eqb}
+use Rattle.std.proofs.lemmas.Int.{ints, fits_signed_from_abs}
+use Rattle.std.specs.Prelude.{ℤ, pos, neg_ℤ, ◌≤ℤ◌, FitsSigned}
+use Rattle.std.specs.Int.{w16}
 use Rattle.coset_label.specs.Packing.{digits}
 use Rattle.coset_label.specs.Words.{RotationWord, IsShortWord, packed}
 use Rattle.coset_label.proofs.Digits.{digits_packed}
@@ -30,3 +34,15 @@ same_words v w a b e =
     let h = (Decides-and _ _ (Decides-eqb v.qubits w.qubits) (Decides-and _ _ (Decides-eqb (length v.letters) (length w.letters)) (Decides-eqb (packed v.qubits v.letters) (packed w.qubits w.letters)))).0 e in
     let letters : v.letters ≡ w.letters = sym (cut v a) ∙ ((λ i. digits (4 ^ h.0 i) (h.1.0 i) (h.1.1 i)) ∙ cut w b) in
     λ i. record { qubits = h.0 i; letters = letters i }
+
+-- letters that a comparison finds the same
+is_true : (b : Bool) → not b ≡ false → b ≡ true
+is_true true e = refl
+is_true false e = absurd (true≢false e)
+
+pub same_codes : (a : Bool) (x y : ℕ) → not (a && nat_eq x y) ≡ false → x ≡ y
+same_codes a x y e = eqb-true x y (and_parts a (nat_eq x y) (is_true (a && nat_eq x y) e)).1
+
+-- a number of narrow rows fits sixteen bits
+pub small_fits : (z : ℤ) → neg_ℤ (pos (2 ^ 14)) ≤ℤ z → z ≤ℤ pos (2 ^ 14) → FitsSigned w16 z
+small_fits z low high = fits_signed_from_abs w16 z (omega (arith, ints, low, high))

@@ -8,15 +8,13 @@ use Rattle.channel_rep.specs.Words.{IsWord}
 use Rattle.channel_rep.proofs.Built.{same_table_sym, same_table_trans}
 use Rattle.coset_label.specs.Labels.{Label, IsLabelOf}
 use Rattle.coset_label.specs.Words.{RotationWord}
-use Rattle.level_laws.specs.Levels.{StandsIn, removed}
-use Rattle.level_laws.proofs.Exponents.{past_level}
+use Rattle.level_laws.specs.Levels.{removed}
 use Rattle.level_laws.proofs.Follow.{off_circuit}
 use Rattle.level_laws.proofs.Finding.{found_of_same}
 use Rattle.level_laws.proofs.Removed.{removed_step}
 use Rattle.level_store.specs.declared.level.Level.{Level}
 use Rattle.level_store.specs.InOrder.{qubits_of, len_of, IsLevelOf}
 use Rattle.level_store.specs.Stored.{Finds, FindsLabel}
-use Rattle.meet_middle.specs.Remainders.{IsLeastExponentOf}
 use Rattle.meet_middle.proofs.Removing.{remove_letter}
 
 -- a look tells of each table of the same value
@@ -44,24 +42,6 @@ letter_off n kept copied off rest p q is q1 e table value target word same =
     let before : SameTable n (scaled copied) (removed n target word) = subst (λ (c : ChannelGrid). SameTable n (scaled c) (removed n target word)) (sym is) same in
     let after : SameTable n (scaled off) (removed n target (word ++ p ∷ [])) = remove_letter copied.qubits n target (scaled copied) (scaled off) word p at before e table in
     same_table_trans n (scaled rest) (scaled off) _ (subst (λ (k : ℕ). SameTable k (scaled rest) (scaled off)) (q1 ∙ at) value) after
-
--- the whole word taken off a copy of the target, which is then brought to the least exponent
-pub word_off : (n : ℕ) (target copied off rest : ChannelGrid) (word : List ℕ) → target.qubits ≡ n → copied ≡ target → off.qubits ≡ copied.qubits
-    → SameTable copied.qubits (scaled off) (removed copied.qubits (scaled copied) word) → SameTable off.qubits (scaled rest) (scaled off)
-    → SameTable n (scaled rest) (removed n (scaled target) word)
-word_off n target copied off rest word q is q1 table value =
-    let at : copied.qubits ≡ n = ap (λ (c : ChannelGrid). c.qubits) is ∙ q in
-    let after : SameTable n (scaled off) (removed n (scaled copied) word) = subst (λ (k : ℕ). SameTable k (scaled off) (removed k (scaled copied) word)) at table in
-    let whole : SameTable n (scaled off) (removed n (scaled target) word) = subst (λ (c : ChannelGrid). SameTable n (scaled off) (removed n (scaled c) word)) is after in
-    same_table_trans n (scaled rest) (scaled off) _ (subst (λ (k : ℕ). SameTable k (scaled rest) (scaled off)) (q1 ∙ at) value) whole
-
--- where the least exponent without a letter passes a level's number of letters, the rest isn't in that level
-pub past_letter : (n half p exponent : ℕ) (kept : ScaledTable) → IsLeastExponentOf n (removed n kept (p ∷ [])) exponent → half < exponent
-    → (target : ScaledTable) (word : List ℕ) → SameTable n kept (removed n target word) → StandsIn n half (removed n target (word ++ p ∷ [])) → ⊥
-past_letter n half p exponent kept least l target word same found =
-    let off = same_table_trans n _ _ _ least.same (one_letter_off n kept target word p same) in
-    let here = found_of_same n half _ _ found.0 (same_table_sym n _ _ off) found.1 in
-    past_level n least.reduced least.least half (subst (λ k. half < k) (sym least.is) l) (found.0, here)
 
 -- a look into a level, by the level's own numbers
 pub finds_named : (l : Level) (n k : ℕ) → IsLevelOf n k l → (label : Label) (r : Option RotationWord) → FindsLabel (qubits_of l) (len_of l) label r → (m : ScaledTable) → IsCircuitChannel n m → IsLabelOf n m label

@@ -3,3 +3,4 @@ pub mod Fronts
 pub mod Halves
 pub mod Kept
 pub mod Remainders
+pub mod Trails

@@ -5,7 +5,6 @@ use Rattle.std.specs.Prelude.{◌≡◌, ℕ, ◌<◌, ◌≤◌}
 use Rattle.channel_rep.specs.Cells.{ChannelGrid, table_of, IsReduced}
 use Rattle.channel_rep.specs.Tables.{ScaledTable, SameTable}
 use Rattle.coset_label.specs.Labels.{HasLeastExponent}
-use Rattle.quick_label.specs.Letters.{HeldTurns}
 use Rattle.quick_label.specs.ParityWords.{ParityWords, HoldsParities}
 
 -- a table's least exponent: that of a table of the same value which has the least one
@@ -15,10 +14,9 @@ pub record IsLeastExponentOf (n : ℕ) (m : ScaledTable) (exponent : ℕ) : Type
   pub least : HasLeastExponent n reduced
   pub is : reduced.exponent ≡ exponent
 
--- a channel with the least exponent, on one to three qubits, the parities of its numbers and the turns of all letters
-pub record IsRemainder (m : ChannelGrid) (words : ParityWords) (held : HeldTurns) : Type 0 where
+-- a channel with the least exponent, on one to three qubits, and the parities of its numbers
+pub record IsRemainder (m : ChannelGrid) (words : ParityWords) : Type 0 where
   pub some : 0 < m.qubits
   pub few : m.qubits ≤ 3
   pub reduced : IsReduced m
   pub parities : HoldsParities m.qubits (table_of m) words
-  pub turns : held.qubits ≡ m.qubits

@@ -53,10 +53,8 @@ fn split_last(word: Word) -> (Word, Option<Pauli>)
         return (word, None);
     }
     let end = word.len() - 1;
-    let mut before = Word::empty(word.qubits());
-    for i in 0..end {
-        before = before.push_back(word.letter(i));
-    }
+    let n = word.qubits();
+    let before = Word::from_letters(n, end, word.letters() >> (2 * n));
     (before, Some(word.letter(end)))
 }
 

@@ -10,10 +10,12 @@
 mod answer;
 mod fronts;
 mod least;
+mod parities;
 mod probe;
 mod remainder;
 mod rests;
 mod search;
+mod trail;
 mod word2;
 
 pub use answer::Answer;

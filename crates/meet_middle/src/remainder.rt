@@ -1,15 +1,14 @@
 // What is left of a target, and its least exponent without one letter more.
-ghost use Rattle.std.specs.Prelude.{◌≡◌, ◌≢◌, ◌+◌, ◌<◌, ◌≤◌, [], ◌∷◌, IfOk, length};
-ghost use Rattle.channel_rep.specs.Cells.{scaled, most_exponent, IsReduced};
-ghost use Rattle.channel_rep.specs.Tables.{SameTable, IsCircuitChannel};
+ghost use Rattle.std.specs.Prelude.{◌≡◌, ◌≢◌, ◌+◌, ◌^◌, ◌<◌, ◌≤◌, [], ◌∷◌, IfOk};
+ghost use Rattle.channel_rep.specs.Cells.{scaled, IsReduced};
+ghost use Rattle.channel_rep.specs.Tables.{IsCircuitChannel};
 ghost use Rattle.level_laws.specs.Levels.{removed};
 ghost use Rattle.meet_middle.specs.Remainders.{IsLeastExponentOf};
 
-use crate::rests::remove;
-use channel_rep::Channel;
-use coset_label::Word;
+use crate::parities::Parities;
+use channel_rep::Narrow;
 use pauli_basis::Pauli;
-use quick_label::{Parities, Turns};
+use quick_label::Turns;
 use std::alloc::{AllocError, Global};
 use std::marker::Model;
 
@@ -18,10 +17,9 @@ use std::marker::Model;
 /// No memory is taken but by `new`.
 #[derive(Drop)]
 pub struct Remainder {
-    channel: Channel,
-    /// The parities of the channel's numbers.
+    narrow: Narrow,
+    /// The parities of its numbers.
     parities: Parities,
-    turns: Turns,
 }
 
 impl Model for Remainder {
@@ -30,9 +28,9 @@ impl Model for Remainder {
 
     ghost Value = { ChannelGrid };
 
-    ghost view = { λ r. r.channel };
+    ghost view = { λ r. r.narrow };
 
-    ghost invariant = { λ r. IsRemainder r.channel r.parities r.turns };
+    ghost invariant = { λ r. IsRemainder r.narrow r.parities };
 }
 
 impl Remainder {
@@ -42,50 +40,43 @@ impl Remainder {
         requires few { n ≤ 3 }
         ensures { IfOk result (λ r. r.qubits ≡ n) }
     {
-        let channel = Channel::identity(alloc, n)?;
+        let narrow = Narrow::new(alloc, n)?;
         let mut parities = Parities::new(alloc, n)?;
-        parities.take(&channel);
-        let turns = Turns::new(alloc, n)?;
-        Ok(Remainder {
-            channel,
-            parities,
-            turns,
-        })
+        parities.take(&narrow);
+        Ok(Remainder { narrow, parities })
     }
 
-    /// Takes a word off a target, in place of what was left before.
-    pub fn take(&mut self, target: &Channel, word: Word)
-        requires target { target.now.qubits ≡ self.old.qubits }
-        requires word { word.qubits ≡ self.old.qubits }
-        requires room { target.now.exponent + length word.letters ≤ most_exponent }
-        ensures qubits { self.new.qubits ≡ self.old.qubits }
-        ensures table { SameTable self.old.qubits (scaled self.new) (removed self.old.qubits (scaled target.now) word.letters) }
+    /// Becomes a channel that has the least exponent.
+    pub fn take(&mut self, narrow: &Narrow)
+        requires same { narrow.now.qubits ≡ self.old.qubits }
+        requires reduced { IsReduced narrow.now }
+        ensures { self.new ≡ narrow.now }
     {
-        self.channel.copy_from(target);
-        remove(&mut self.channel, word);
-        self.channel.reduce();
-        self.parities.take(&self.channel);
+        self.narrow.copy_from(narrow);
+        self.parities.take(narrow);
     }
 
     /// The channel.
-    pub fn channel(&self) -> &Channel
+    pub fn narrow(&self) -> &Narrow
         ensures value { result.now ≡ self.now }
         ensures reduced { IsReduced self.now }
     {
-        &self.channel
+        &self.narrow
     }
 
     /// The least exponent of what is left without one letter more. Nothing is taken off for it.
-    pub fn exponent_without(&self, letter: Pauli) -> u32
+    pub fn exponent_without(&self, turns: &Turns, letter: Pauli) -> u32
+        requires turns { turns.now.qubits ≡ self.now.qubits }
         requires same { letter.qubits ≡ self.now.qubits }
         requires other { letter.code ≢ 0 }
         requires circuit { IsCircuitChannel self.now.qubits (scaled self.now) }
+        ensures letter { letter.code < 4 ^ letter.qubits }
         ensures near { self.now.exponent ≤ result + 1 }
         ensures least { IsLeastExponentOf self.now.qubits
             (removed self.now.qubits (scaled self.now) (letter.code ∷ [])) result }
     {
-        let commuting = self.turns.commuting(letter.code() as usize);
+        let commuting = turns.commuting(letter.code() as usize);
         let divisions = self.parities.divisions(commuting, letter);
-        self.channel.exponent() + 1 - divisions as u32
+        self.narrow.exponent() + 1 - divisions as u32
     }
 }

@@ -1,7 +1,8 @@
 // The first front of a total that meets its level, by workers.
-ghost use Rattle.std.specs.Prelude.{◌≡◌, ℕ, ◌+◌, ◌<◌, ◌≤◌, true, false, ◌++◌, All, IfOk, IfSome, IfNone, map};
-ghost use Rattle.channel_rep.specs.Cells.{scaled};
-ghost use Rattle.channel_rep.specs.Tables.{ScaledTable};
+ghost use Rattle.std.specs.Prelude.{◌≡◌, ℕ, ◌+◌, ◌*◌, ◌<◌, ◌≤◌, true, false, ◌++◌, All, IfOk, IfSome, IfNone, map};
+ghost use Rattle.channel_rep.specs.Cells.{scaled, IsReduced};
+ghost use Rattle.channel_rep.specs.Tables.{IsCircuitChannel};
+ghost use Rattle.coset_label.specs.Words.{most_letters};
 ghost use Rattle.steal_sweep.specs.Searches.{IsLeastHit};
 ghost use Rattle.level_laws.specs.Levels.{Meets, NoneBelow};
 ghost use Rattle.level_store.specs.Stored.{letters_in};
@@ -23,7 +24,7 @@ use work_shares::deal;
 /// Whether the rest of the target behind the front of a position stands in the level.
 #[derive(Drop)]
 pub struct Fronts<'a, const N: u8> {
-    /// The channel whose least word is looked for.
+    /// The channel whose least word is looked for. The workers take letters off channels of their own, of the same value.
     pub target: &'a Channel,
     /// The level of which a front begins with a word, and in which the rest is looked up.
     pub level: &'a Level,
@@ -40,22 +41,22 @@ impl<'a, const N: u8> Test<Probe<N>> for Fronts<'a, N> {
     ghost use Rattle.meet_middle.specs.Fronts.{fronts_of, front_meets};
     ghost use Rattle.meet_middle.specs.Kept.{IsAsked, keeps};
 
-    ghost fits = { λ t l. keeps N (scaled t.target.now) l.prefix l.kept };
+    ghost fits = { λ t l. keeps N (scaled t.target.now) l.trail };
 
     ghost needs = { λ t. IsAsked N t.half t.target.now t.level.now };
 
     ghost may = { λ t l p. nat_lt p (fronts_of N (letters_in t.level.now) t.odd)
-        && (keeps N (scaled t.target.now) l.prefix l.kept && ⟦<Probe<N> as Local>⟧.fit l) };
+        && (keeps N (scaled t.target.now) l.trail && ⟦<Probe<N> as Local>⟧.fit l) };
 
     ghost gives = { λ t l p r l'. (r ≡ front_meets N (letters_in t.level.now) t.odd (scaled t.target.now) p)
-        × (keeps N (scaled t.target.now) l'.prefix l'.kept ≡ true)
+        × (keeps N (scaled t.target.now) l'.trail ≡ true)
         × (⟦<Probe<N> as Local>⟧.fit l' ≡ true) };
 
     ghost truth = { λ t p. front_meets N (letters_in t.level.now) t.odd (scaled t.target.now) p };
 
     fn answer(&self, local: &mut Probe<N>, position: u64) -> bool {
         local
-            .look(self.target, self.level, self.half, self.odd, position)
+            .look(self.level, self.half, self.odd, position)
             .is_some()
     }
 }
@@ -63,17 +64,22 @@ impl<'a, const N: u8> Test<Probe<N>> for Fronts<'a, N> {
 /// A seeker for each seat.
 fn seekers<const N: u8>(
     alloc: Global,
+    target: &Channel,
     seats: Vec<BestSeat>,
 ) -> Result<Vec<Seeker<Probe<N>>>, AllocError>
-    requires qubits { (0 < N) × (N ≤ 3) }
+    requires some { 0 < N }
+    requires few { N ≤ 3 }
+    requires qubits { target.now.qubits ≡ N }
+    requires low { target.now.exponent ≤ 2 * most_letters N }
+    requires reduced { IsReduced target.now }
+    requires circuit { IsCircuitChannel N (scaled target.now) }
     ensures seats { IfOk result (λ v. map (λ s. s.seat) v.items ≡ seats.items) }
     ensures fit { IfOk result (λ v. All (λ s. ⟦<Probe<N> as Local>⟧.fit s.local ≡ true) v.items) }
-    ensures keeps { IfOk result (λ v. (target : ScaledTable)
-        → All (λ s. keeps N target s.local.prefix s.local.kept ≡ true) v.items) }
+    ensures keeps { IfOk result (λ v. All (λ s. keeps N (scaled target.now) s.local.trail ≡ true) v.items) }
 {
     let mut all = Vec::new(alloc);
     for seat in seats {
-        let local = Probe::new(alloc)?;
+        let local = Probe::new(alloc, target)?;
         all.push(Seeker { seat, local })?;
     }
     Ok(all)
@@ -100,7 +106,7 @@ fn first_front<H: Threads + Sync, G: Turnstile + Sync, const N: u8>(
 {
     let total = front_count(level, N, half, odd);
     let (best, seats) = Best::new(alloc, workers)?;
-    let shares = deal(alloc, total, 64, seekers::<N>(alloc, seats)?)?;
+    let shares = deal(alloc, total, 64, seekers::<N>(alloc, target, seats)?)?;
     let sweep = Sweep::new(
         total,
         Fronts {
@@ -123,7 +129,7 @@ fn spell<const N: u8>(
     position: u64,
 ) -> Word2
     requires fit { ⟦<Probe<N> as Local>⟧.fit probe.old ≡ true }
-    requires keeps { keeps N (scaled target.now) probe.old.prefix probe.old.kept ≡ true }
+    requires keeps { keeps N (scaled target.now) probe.old.trail ≡ true }
     requires asked { IsAsked N half target.now level.now }
     requires below { position < fronts_of N (letters_in level.now) odd }
     requires hit { front_meets N (letters_in level.now) odd (scaled target.now) position ≡ true }
@@ -132,7 +138,7 @@ fn spell<const N: u8>(
     ensures spelled { spelled result.first.letters result.middle result.last.letters
         ≡ front_of N (letters_in level.now) odd position ++ result.last.letters }
 {
-    let Some(back) = probe.look(target, level, half, odd, position) else {
+    let Some(back) = probe.look(level, half, odd, position) else {
         unreachable!()
     };
     let (number, middle) = front(N, odd, position);
@@ -161,7 +167,7 @@ fn try_on<H: Threads + Sync, G: Turnstile + Sync, const N: u8>(
     ensures some { IfOk result (λ r. IfSome r (IsLeastAnswer N (scaled target.now) (total_of half odd))) }
     ensures none { IfOk result (λ r. IfNone r (NoneBelow N (scaled target.now) (total_of half odd + 1))) }
 {
-    let mut probe = Probe::<N>::new(alloc)?;
+    let mut probe = Probe::<N>::new(alloc, target)?;
     let met = first_front::<_, _, N>(th, alloc, level, target, half, odd, workers, gate)?;
     match met {
         Some(position) => Ok(Some(spell(&mut probe, level, target, half, odd, position))),

@@ -21,7 +21,7 @@ unreachable-requires g c =
     let target = scaled c.args.target.now in
     let stored = stored_at n half c.args.level.now c.requires.asked.number in
     let rest = removed n target (front_of n words c.args.odd c.args.position) in
-    let never : StandsIn n half rest → ⊥ = subst (λ (o : Option RotationWord). Finds n half rest o) c.in_default.is c.look.ensures.finds in
+    let never : StandsIn n half rest → ⊥ = subst (λ (o : Option RotationWord). Finds n half rest o) c.in_default.is (c.look.ensures.finds (scaled c.args.target.now) c.requires.keeps) in
     never ((meets_decided n stored.some stored.few half words stored.level target c.args.odd c.args.position).0 c.requires.hit)
 
 pub word-requires : goal.word-requires
@@ -33,7 +33,7 @@ invariant_of-result g c =
     let n = g.row.N in
     let half = c.args.half in
     let rest = removed n (scaled c.args.target.now) (front_of n (letters_in c.args.level.now) c.args.odd c.args.position) in
-    let found = subst (λ (o : Option RotationWord). Finds n half rest o) c.in-Some.is c.look.ensures.finds in
+    let found = subst (λ (o : Option RotationWord). Finds n half rest o) c.in-Some.is (c.look.ensures.finds (scaled c.args.target.now) c.requires.keeps) in
     let below = subst (λ (k : ℕ). k < length (words_of c.args.level.now)) (sym c.front-number.ensures.number) (number_below n c.args.level.now c.args.odd c.args.position c.requires.below) in
     let first = word_qubits n (words_of c.args.level.now) c.front-number.result.0 c.word.result below c.word.ensures.word (stored_at n c.args.half c.args.level.now c.requires.asked.number).words in
     let middle = λ (p : PauliString) (is : c.front-number.result.1 ≡ Some p). subst (λ (o : Option PauliString). IfSome o (λ q. (q.qubits ≡ n) × (q.code < 4 ^ n) × (q.code ≢ 0))) is c.front-number.ensures.middle in
@@ -53,7 +53,7 @@ pub returns-clause-meets : goal.returns-clause-meets
 returns-clause-meets g c =
     let n = g.row.N in
     let rest = removed n (scaled c.args.target.now) (front_of n (letters_in c.args.level.now) c.args.odd c.args.position) in
-    (subst (λ (o : Option RotationWord). Finds n c.args.half rest o) c.in-Some.is c.look.ensures.finds).1
+    (subst (λ (o : Option RotationWord). Finds n c.args.half rest o) c.in-Some.is (c.look.ensures.finds (scaled c.args.target.now) c.requires.keeps)).1
 
 pub returns-clause-spelled : goal.returns-clause-spelled
 returns-clause-spelled g c =

@@ -1,31 +1,44 @@
-use Rattle.std.proofs.Common.{◌≡◌, true, List, ℕ, Option, sym, ◌∙◌, subst, rules}
+use Rattle.std.proofs.Common.{◌≡◌, ◌++◌, ℕ, List, Option, None, IsTrue, false, ap, sym, ◌∙◌, subst, rules}
 use Rattle.channel_rep.specs.Cells.{ChannelGrid, scaled}
-use Rattle.channel_rep.specs.Tables.{SameTable}
+use Rattle.channel_rep.specs.Tables.{IsCircuitChannel}
 use Rattle.coset_label.specs.Words.{RotationWord}
-use Rattle.level_laws.specs.Levels.{removed}
-use Rattle.level_store.specs.Stored.{Finds}
-use Rattle.meet_middle.specs.Kept.{keeps}
-use Rattle.meet_middle.proofs.Keeping.{same_table_decided}
-use Rattle.meet_middle.proofs.Resting.{rest_circuit}
+use Rattle.level_laws.specs.Levels.{StandsIn, removed}
+use Rattle.level_store.specs.Stored.{Finds, letters_in}
+use Rattle.meet_middle.specs.Fronts.{front_of}
+use Rattle.meet_middle.proofs.Keeping.{kept_removed}
+use Rattle.meet_middle.proofs.Resting.{finds_of_same}
 use Rattle.meet_middle.proofs.probe.Probe.look.Goals as goal
 
-pub meet-requires : goal.meet-requires
-meet-requires g c =
+pub returns-then-not-leave-clause-finds : goal.returns-then-not-leave-clause-finds
+returns-then-not-leave-clause-finds g c =
+    λ target keeps.
     let n = g.row.N in
-    let asked = c.requires.asked in
-    let circuit = rest_circuit n asked.some asked.few (scaled c.keep.new.self.kept) (scaled c.args.target.now) c.split_front-prefix.result.0.letters c.split_front-prefix.ensures.word c.keep.ensures.kept asked.circuit in
-    (search rules, (c.keep.ensures.fit, (asked.number, (circuit, c.split_front-prefix.ensures.last))))
+    let half = c.args.half in
+    let own = scaled c.args.self.now.trail.target in
+    let front = front_of n (letters_in c.args.level.now) c.args.odd c.args.position in
+    let failed : c.leave.result ≡ false = search rules in
+    let none = subst (λ (w : List ℕ). StandsIn n half (removed n own w) → ⊥) c.split_front-prefix.ensures.front (c.leave.ensures.none failed) in
+    finds_of_same n half (removed n own front) (removed n target front) (kept_removed n own target keeps front) None none
 
-pub returns-clause-keeps : goal.returns-clause-keeps
-returns-clause-keeps g c =
-    let n = g.row.N in
-    let target = scaled c.args.target.now in
-    let rest = removed n target c.split_front-prefix.result.0.letters in
-    let kept = subst (λ (m : ChannelGrid). SameTable n (scaled m) rest) (sym c.meet.ensures.kept) c.keep.ensures.kept in
-    subst (λ (o : Option RotationWord). keeps n target o c.meet.new.self.kept ≡ true) (sym (c.meet.ensures.prefix ∙ c.keep.ensures.prefix)) ((same_table_decided n (scaled c.meet.new.self.kept) rest).1 kept)
+pub find_rest-requires-clause-circuit : goal.find_rest-requires-clause-circuit
+find_rest-requires-clause-circuit g c =
+    let yes : IsTrue c.leave.result = search rules in
+    let left = c.leave.ensures.rest yes in
+    let rest = c.leave.new.self.trail.rest in
+    subst (λ (m : ChannelGrid). IsCircuitChannel m.qubits (scaled m)) (sym c.rest.ensures.value) (subst (λ (q : ℕ). IsCircuitChannel q (scaled rest)) (sym left.qubits) left.circuit)
 
 pub returns-clause-finds : goal.returns-clause-finds
 returns-clause-finds g c =
-    let target = scaled c.args.target.now in
-    subst (λ (x : List ℕ). Finds g.row.N c.args.half (removed g.row.N target x) c.meet.result) c.split_front-prefix.ensures.front
-    (c.meet.ensures.finds target c.split_front-prefix.result.0.letters c.keep.ensures.kept)
+    λ target keeps.
+    let n = g.row.N in
+    let half = c.args.half in
+    let own = scaled c.args.self.now.trail.target in
+    let front = front_of n (letters_in c.args.level.now) c.args.odd c.args.position in
+    let yes : IsTrue c.leave.result = search rules in
+    let left = c.leave.ensures.rest yes in
+    let rest = c.leave.new.self.trail.rest in
+    let found = c.find_rest.result in
+    let here : Finds rest.qubits half (scaled rest) found = subst (λ (m : ChannelGrid). Finds m.qubits half (scaled m) found) c.rest.ensures.value c.find_rest.ensures.finds in
+    let behind = finds_of_same n half (scaled rest) _ left.same found (subst (λ (q : ℕ). Finds q half (scaled rest) found) left.qubits here) in
+    let whole = subst (λ (w : List ℕ). Finds n half (removed n own w) found) c.split_front-prefix.ensures.front behind in
+    finds_of_same n half (removed n own front) (removed n target front) (kept_removed n own target keeps front) found whole
