@@ -1,8 +1,8 @@
 -- A first part whose least exponent passes the letters that are left leads to no word of the level.
-use Rattle.std.proofs.Common.{◌≡◌, ◌≢◌, ℕ, true, false, ◌+◌, ◌^◌, ◌<◌, ◌≤◌, List, [], ◌∷◌, ◌++◌, length, length-append, append_assoc, refl, ap, sym, ◌∙◌, subst, arith}
+use Rattle.std.proofs.Common.{◌≡◌, ℕ, ◌+◌, ◌≤◌, List, [], ◌∷◌, ◌++◌, length, length-append, append_assoc, ap, sym, ◌∙◌, subst, arith}
 use Rattle.std.proofs.lemmas.List.{append-nil}
 use Rattle.channel_rep.specs.Cells.{ChannelGrid, scaled}
-use Rattle.channel_rep.specs.Tables.{ScaledTable, by_inverse_rotation, stepped, built_on, SameTable, IsCircuitChannel}
+use Rattle.channel_rep.specs.Tables.{ScaledTable, by_inverse_rotation, stepped, built_on, SameTable}
 use Rattle.channel_rep.specs.Words.{IsWord}
 use Rattle.channel_rep.proofs.Built.{same_table_refl, same_table_trans}
 use Rattle.channel_rep.proofs.Products.{built_on-append}

@@ -1,5 +1,5 @@
 -- The target without the first letters of a word, one remainder for each number of letters.
-use Rattle.std.specs.Prelude.{◌≡◌, ℕ, ◌+◌, ◌<◌, ◌≤◌, List, [], ◌∷◌, ◌++◌, length, take, slice_index_or}
+use Rattle.std.specs.Prelude.{◌≡◌, ℕ, ◌+◌, ◌<◌, ◌≤◌, List, [], ◌++◌, length, take, slice_index_or}
 use Rattle.channel_rep.specs.Cells.{ChannelGrid, scaled, IsReduced}
 use Rattle.channel_rep.specs.Tables.{ScaledTable, SameTable, IsCircuitChannel}
 use Rattle.coset_label.specs.Words.{RotationWord, most_letters}

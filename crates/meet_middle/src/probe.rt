@@ -102,6 +102,12 @@ impl<const N: u8> Probe<N> {
         if !self.leave(prefix, &last, half) {
             return None;
         }
-        find_rest(level, half, self.trail.rest(), &mut self.label, &mut self.other)
+        find_rest(
+            level,
+            half,
+            self.trail.rest(),
+            &mut self.label,
+            &mut self.other,
+        )
     }
 }

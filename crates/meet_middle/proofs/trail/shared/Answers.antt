@@ -1,4 +1,4 @@
-use Rattle.std.proofs.Common.{◌≡◌, ◌+◌, ◌++◌, ◌∷◌, [], ℕ, List, Some, length, length-append, take, slice_get, ap, sym, ◌∙◌, subst, arith, rules}
+use Rattle.std.proofs.Common.{◌≡◌, ◌++◌, ◌∷◌, [], ℕ, List, Some, length, length-append, slice_get, ap, sym, ◌∙◌, subst, arith}
 use Rattle.coset_label.specs.Words.{RotationWord}
 use Rattle.meet_middle.proofs.Numbers.{same_codes}
 use Rattle.meet_middle.proofs.Trailing.{take_letter}

@@ -1,4 +1,4 @@
-use Rattle.std.proofs.Common.{◌≡◌, ◌≢◌, ◌+◌, ◌^◌, ◌<◌, ◌≤◌, ◌++◌, ◌∷◌, [], ℕ, List, Option, IfSome, Some, IsTrue, false, true, ap, sym, ◌∙◌, subst, arith, rules}
+use Rattle.std.proofs.Common.{◌≡◌, ◌≢◌, ◌+◌, ◌^◌, ◌<◌, ◌++◌, ◌∷◌, [], ℕ, Option, IfSome, IsTrue, false, ◌∙◌, subst, arith, rules}
 use Rattle.pauli_basis.specs.Pauli.{PauliString}
 use Rattle.channel_rep.specs.Cells.{scaled}
 use Rattle.level_laws.specs.Levels.{StandsIn, removed}

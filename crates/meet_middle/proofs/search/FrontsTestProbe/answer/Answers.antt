@@ -19,8 +19,7 @@ returns g c =
     let own = scaled c.args.local.now.trail.target in
     let front = front_of n words self.odd c.args.position in
     let keeps : same_table n own target ≡ true = (and_parts _ _ (and_parts _ _ c.requires.may).1).0 in
-    let finds = c.look.ensures.finds target keeps in
-    (
+    let finds = c.look.ensures.finds target keeps in (
       c.is_some.ensures ∙ look_tells n self.half words (stored_at n self.half self.level.now c.requires.needs.number).level (removed n target front) c.look.result finds,
       ap (λ (m : ChannelGrid). same_table n (scaled m) target) c.look.ensures.target ∙ keeps,
       c.look.ensures.fit,

@@ -1,8 +1,7 @@
-use Rattle.std.proofs.Common.{◌≡◌, ◌≢◌, ℕ, ◌^◌, ◌<◌, ap, sym, ◌∙◌, subst, rules}
+use Rattle.std.proofs.Common.{◌≢◌, ℕ, ◌^◌, ◌<◌, ap, sym, ◌∙◌, subst, rules}
 use Rattle.channel_rep.specs.Cells.{ChannelGrid, scaled}
 use Rattle.channel_rep.specs.Tables.{IsCircuitChannel}
-use Rattle.coset_label.specs.Words.{RotationWord}
-use Rattle.meet_middle.specs.Trails.{HeldTrail, without}
+use Rattle.meet_middle.specs.Trails.{HeldTrail}
 use Rattle.meet_middle.proofs.Trailing.{held_some, held_few, held_kept, past_one, rest_one, rest_replaced}
 use Rattle.meet_middle.proofs.trail.Trail.leave.Goals as goal
 

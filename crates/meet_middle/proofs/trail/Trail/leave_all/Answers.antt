@@ -1,5 +1,5 @@
-use Rattle.std.proofs.Common.{◌≡◌, sym, ◌∙◌, subst}
-use Rattle.channel_rep.specs.Cells.{ChannelGrid, scaled, IsReduced}
+use Rattle.std.proofs.Common.{sym, ◌∙◌, subst}
+use Rattle.channel_rep.specs.Cells.{ChannelGrid, scaled}
 use Rattle.meet_middle.specs.Trails.{IsRest}
 use Rattle.meet_middle.proofs.Trailing.{held_kept}
 use Rattle.meet_middle.proofs.trail.Trail.leave_all.Goals as goal

@@ -1,7 +1,7 @@
-use Rattle.std.proofs.Common.{◌≡◌, ℕ, ◌+◌, ◌<◌, ◌++◌, ◌∷◌, [], List, length, set, IsTrue, ap, sym, ◌∙◌, subst, rules, arith}
+use Rattle.std.proofs.Common.{◌≡◌, ℕ, ◌+◌, ◌<◌, ◌++◌, ◌∷◌, [], length, set, IsTrue, ap, sym, ◌∙◌, subst, rules}
 use Rattle.channel_rep.specs.Cells.{ChannelGrid, scaled}
 use Rattle.coset_label.specs.Words.{RotationWord, most_letters}
-use Rattle.meet_middle.specs.Trails.{HeldTrail, IsTrail, IsRest, without}
+use Rattle.meet_middle.specs.Trails.{HeldTrail, IsTrail, IsRest}
 use Rattle.meet_middle.proofs.Trailing.{pushed}
 use Rattle.meet_middle.proofs.trail.Trail.push.Goals as goal
 

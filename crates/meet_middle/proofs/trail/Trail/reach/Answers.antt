@@ -1,4 +1,4 @@
-use Rattle.std.proofs.Common.{◌≡◌, ◌≤◌, ◌+◌, ◌-◌, ◌++◌, ◌∷◌, [], ℕ, List, false, length, length-take, take, IsTrue, ap, sym, ◌∙◌, subst, arith, rules}
+use Rattle.std.proofs.Common.{◌≡◌, ◌+◌, ◌-◌, ◌++◌, ◌∷◌, [], ℕ, List, false, IsTrue, ap, sym, ◌∙◌, subst, rules}
 use Rattle.channel_rep.specs.Cells.{ChannelGrid, scaled}
 use Rattle.meet_middle.specs.Trails.{IsPast}
 use Rattle.meet_middle.proofs.Trailing.{take_letter, part_past}

@@ -1,4 +1,3 @@
-use Rattle.std.proofs.Common.{◌≡◌, ap, sym, ◌∙◌}
 use Rattle.meet_middle.proofs.Trailing.{turned_back}
 use Rattle.meet_middle.proofs.trail.Trail.turn_back.Goals as goal
 
