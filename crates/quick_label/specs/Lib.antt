@@ -14,3 +14,4 @@ pub mod Places
 pub mod FrontRooms
 pub mod Suffixes
 pub mod Sums
+pub mod Classes

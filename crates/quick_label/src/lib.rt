@@ -6,6 +6,7 @@
 #![tactic(auto)]
 
 mod blocks;
+mod classes;
 mod columns;
 mod front;
 pub mod laws;

@@ -6,12 +6,14 @@ ghost use Rattle.coset_label.specs.Words.{RotationWord, IsShortWord, most_letter
 ghost use Rattle.coset_words.specs.Marks.{IsMarkOf};
 ghost use Rattle.label_laws.specs.Folds.{weights};
 ghost use Rattle.label_laws.specs.Sparse.{AreWeights};
+ghost use Rattle.quick_label.specs.Classes.{IsClassRoom, IsClass};
 ghost use Rattle.quick_label.specs.Columns.{HoldsColumns};
 ghost use Rattle.quick_label.specs.FrontRooms.{IsFrontRoom, AreFrontSums};
-ghost use Rattle.quick_label.specs.Rooms.{AreBlocks};
 ghost use Rattle.quick_label.specs.Spans.{AreSpan};
 ghost use Rattle.quick_label.specs.Weights.{before_letter, IsLetterOf};
 
+use crate::blocks::Blocks;
+use crate::classes::{Class, new_classes, take_classes};
 use crate::columns::Columns;
 use crate::front::{Front, find_leads, number_columns};
 use crate::parities::Parities;
@@ -38,6 +40,10 @@ pub struct Suffix {
     columns: Columns,
     parities: Parities,
     span: Vec<bool>,
+    /// The blocks of the span.
+    blocks: Blocks,
+    /// The classes of letters before the word, each at the home of its letters.
+    classes: Vec<Class>,
     turns: Turns,
     fold: Weights,
     powers: Vec<u64>,
@@ -60,6 +66,8 @@ impl Model for Suffix {
       columns = s.columns;
       parities = s.parities;
       span = s.span.items;
+      blocks = s.blocks;
+      classes = s.classes.items;
       turns = s.turns;
       fold = s.fold;
       powers = s.powers.items;
@@ -120,6 +128,7 @@ fn weigh_front(
     n: u8,
     columns: &Columns,
     fold: &Weights,
+    class: &Class,
     commuting: &[bool],
     negative: &[bool],
     p: usize,
@@ -129,15 +138,14 @@ fn weigh_front(
     requires room { IsFrontRoom n front.old }
     requires columns { columns.now.size ≡ 4 ^ n }
     requires fold { length fold.now.wholes ≡ 4 ^ n }
+    requires class { IsClassRoom n class.now }
     requires letter { p < 4 ^ n }
     requires commuting { length commuting.now ≡ 4 ^ n }
     requires negative { length negative.now ≡ 4 ^ n }
     ensures room { IsFrontRoom n front.new }
-    ensures span { front.new.span ≡ front.old.span }
-    ensures blocks { front.new.blocks ≡ front.old.blocks }
-    ensures sums { (m : SurdTable) (span : List Bool) → IsLetterOf n p commuting.now negative.now → HoldsColumns (4 ^ n) m columns.now
-        → AreWeights (4 ^ n) (weights (4 ^ n)) fold.now.wholes fold.now.parts → AreBlocks (4 ^ n) span front.old.blocks
-        → AreFrontSums n p divisions span m front.new.folds.items front.new.highs.items front.new.lows.items }
+    ensures sums { (m : SurdTable) (letters : List ℕ) → IsLetterOf n p commuting.now negative.now → HoldsColumns (4 ^ n) m columns.now
+        → AreWeights (4 ^ n) (weights (4 ^ n)) fold.now.wholes fold.now.parts → IsClass n letters class.now
+        → AreFrontSums n p divisions class.now.span.items m front.new.folds.items front.new.highs.items front.new.lows.items }
 {
     take_before(
         n,
@@ -148,20 +156,18 @@ fn weigh_front(
         divisions,
         &mut front.fold_before,
     );
-    front.behind.take_high(&front.blocks);
     take_before(
         n,
-        &front.behind,
+        &class.high,
         commuting,
         negative,
         p,
         divisions,
         &mut front.high_before,
     );
-    front.behind.take_low(&front.blocks);
     take_before(
         n,
-        &front.behind,
+        &class.low,
         commuting,
         negative,
         p,
@@ -193,12 +199,18 @@ impl Suffix {
         parities.take(&channel);
         let mut span = vec![in alloc; false; codes(n)]?;
         empty_span(&mut span);
+        let mut blocks = Blocks::new(alloc, n)?;
+        blocks.take(&span);
+        let mut classes = new_classes(alloc, n)?;
+        take_classes(n, &span, &blocks, &mut classes);
         Ok(Suffix {
             word: Word::empty(n),
             channel,
             columns,
             parities,
             span,
+            blocks,
+            classes,
             turns: Turns::new(alloc, n)?,
             fold: Weights::of_fold(alloc, n)?,
             powers: place_powers(alloc, n)?,
@@ -227,6 +239,8 @@ impl Suffix {
         self.columns.take(&self.channel);
         self.parities.take(&self.channel);
         span_of(word, &mut self.span, &mut self.front.span);
+        self.blocks.take(&self.span);
+        take_classes(word.qubits(), &self.span, &self.blocks, &mut self.classes);
         self.word = word;
     }
 
@@ -244,16 +258,17 @@ impl Suffix {
         if exponent > most_exponent_behind(divisions) {
             return None;
         }
-        let front = &mut self.front;
-        widen(&self.span, p, &mut front.span);
-        if !front.blocks.take(&front.span) {
+        let class = &self.classes[self.blocks.home(p)];
+        if !class.small {
             return None;
         }
+        let front = &mut self.front;
         let negative = self.turns.negative(p);
         weigh_front(
             self.word.qubits(),
             &self.columns,
             &self.fold,
+            class,
             commuting,
             negative,
             p,
@@ -261,13 +276,13 @@ impl Suffix {
             front,
         );
         number_columns(&front.highs, &front.lows, divisions > 0, &mut front.numbers);
-        if !find_leads(&front.numbers, &front.blocks, &mut front.leads) {
+        if !find_leads(&front.numbers, &class.blocks, &mut front.leads) {
             return None;
         }
         find_places(
             &front.numbers,
             &front.leads,
-            &front.blocks,
+            &class.blocks,
             &mut front.places,
         );
         let sum = placed_sum(0, &front.folds, &front.numbers, &front.places, &self.powers);
