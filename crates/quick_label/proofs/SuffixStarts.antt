@@ -42,8 +42,7 @@ module _ (n : ℕ) (some : 0 < n) (few : n ≤ 3) (s : SuffixParts) (are : AreEm
     classes = are.classes;
     constants = record {
       turns = are.constants.turns;
-      long = are.constants.long;
-      fold = are.constants.fold;
+      folds = are.constants.folds;
       powers = are.constants.powers;
       top = are.constants.top;
       blocks = are.constants.blocks;

@@ -15,3 +15,4 @@ pub mod FrontRooms
 pub mod Suffixes
 pub mod Sums
 pub mod Classes
+pub mod Folds

@@ -3,17 +3,17 @@ use Rattle.std.specs.Prelude.{◌≡◌, ℕ, ◌%◌, ◌^◌, ◌≤◌, Bool,
 use Rattle.channel_rep.specs.Cells.{ChannelGrid, table_of, scaled, IsReduced}
 use Rattle.channel_rep.specs.Tables.{IsBuiltOf}
 use Rattle.coset_label.specs.Words.{RotationWord, IsShortWord, word_steps}
-use Rattle.label_laws.specs.Folds.{weights}
-use Rattle.label_laws.specs.Sparse.{AreWeights}
 use Rattle.label_laws.specs.Totals.{column_power}
 use Rattle.quick_label.specs.Classes.{IsClassRoom, AreClasses}
 use Rattle.quick_label.specs.Columns.{StoredColumns, HoldsColumns}
+use Rattle.quick_label.specs.Folds.{AreFolds}
 use Rattle.quick_label.specs.FrontRooms.{IsFrontRoom}
-use Rattle.quick_label.specs.Letters.{HeldTurns, HeldWeights}
+use Rattle.quick_label.specs.Letters.{HeldTurns}
 use Rattle.quick_label.specs.ParityWords.{ParityWords, HoldsParities}
 use Rattle.quick_label.specs.Places.{ArePlacePowers}
 use Rattle.quick_label.specs.Rooms.{HeldBlocks, AreBlocks}
 use Rattle.quick_label.specs.Spans.{AreSpan}
+use Rattle.quick_label.specs.declared.before.Folds.{Folds}
 use Rattle.quick_label.specs.declared.classes.Class.{Class}
 use Rattle.quick_label.specs.declared.front.Front.{Front}
 
@@ -28,7 +28,7 @@ pub record SuffixParts : Type 0 where
   pub blocks : HeldBlocks
   pub classes : List Class
   pub turns : HeldTurns
-  pub fold : HeldWeights
+  pub folds : Folds
   pub powers : List ℕ
   pub top : ℕ
   pub front : Front
@@ -37,8 +37,7 @@ pub record SuffixParts : Type 0 where
 -- qubits
 pub record HasConstants (n : ℕ) (s : SuffixParts) : Type 0 where
   pub turns : s.turns.qubits ≡ n
-  pub long : length s.fold.wholes ≡ 4 ^ n
-  pub fold : AreWeights (4 ^ n) (weights (4 ^ n)) s.fold.wholes s.fold.parts
+  pub folds : AreFolds n s.folds
   pub powers : ArePlacePowers n s.powers
   pub top : s.top ≡ column_power n ^ 4 ^ n % 2 ^ 64
   pub blocks : s.blocks.size ≡ 4 ^ n

@@ -5,6 +5,7 @@
 //! channel of the longer word and no label.
 #![tactic(auto)]
 
+mod before;
 mod blocks;
 mod classes;
 mod columns;

@@ -4,14 +4,14 @@ ghost use Rattle.channel_rep.specs.Cells.{scaled, table_of, IsReduced};
 ghost use Rattle.channel_rep.specs.Tables.{SurdTable, IsBuiltOf};
 ghost use Rattle.coset_label.specs.Words.{RotationWord, IsShortWord, most_letters, word_steps};
 ghost use Rattle.coset_words.specs.Marks.{IsMarkOf};
-ghost use Rattle.label_laws.specs.Folds.{weights};
-ghost use Rattle.label_laws.specs.Sparse.{AreWeights};
 ghost use Rattle.quick_label.specs.Classes.{IsClassRoom, IsClass};
 ghost use Rattle.quick_label.specs.Columns.{HoldsColumns};
+ghost use Rattle.quick_label.specs.Folds.{AreFolds};
 ghost use Rattle.quick_label.specs.FrontRooms.{IsFrontRoom, AreFrontSums};
 ghost use Rattle.quick_label.specs.Spans.{AreSpan};
-ghost use Rattle.quick_label.specs.Weights.{before_letter, IsLetterOf};
+ghost use Rattle.quick_label.specs.Weights.{IsLetterOf};
 
+use crate::before::{Folds, take_before};
 use crate::blocks::Blocks;
 use crate::classes::{Class, new_classes, take_classes};
 use crate::columns::Columns;
@@ -21,7 +21,6 @@ use crate::places::{find_places, place_powers, placed_sum, tag_of_sum, top_power
 use crate::spans::{codes, empty_span, widen};
 use crate::sums::weigh_columns;
 use crate::turns::Turns;
-use crate::weights::Weights;
 use channel_rep::Channel;
 use coset_label::{Scratch, Word, channel_of_word, label_of_front};
 use coset_words::{Mark, mark_of};
@@ -45,7 +44,7 @@ pub struct Suffix {
     /// The classes of letters before the word, each at the home of its letters.
     classes: Vec<Class>,
     turns: Turns,
-    fold: Weights,
+    folds: Folds,
     powers: Vec<u64>,
     top: u64,
     front: Front,
@@ -69,7 +68,7 @@ impl Model for Suffix {
       blocks = s.blocks;
       classes = s.classes.items;
       turns = s.turns;
-      fold = s.fold;
+      folds = s.folds;
       powers = s.powers.items;
       top = s.top;
       front = s.front;
@@ -101,33 +100,11 @@ fn most_exponent_behind(divisions: u8) -> u32
     if divisions > 0 { 5 } else { 6 }
 }
 
-/// Makes the weights before a letter that make sums behind it by given weights.
-fn take_before(
-    n: u8,
-    weights: &Weights,
-    commuting: &[bool],
-    negative: &[bool],
-    p: usize,
-    divisions: u8,
-    before: &mut Weights,
-)
-    requires weights { length weights.now.wholes ≡ 4 ^ n }
-    requires letter { p < 4 ^ n }
-    requires commuting { length commuting.now ≡ 4 ^ n }
-    requires negative { length negative.now ≡ 4 ^ n }
-    requires before { length before.old.wholes ≡ 4 ^ n }
-    ensures long { length before.new.wholes ≡ 4 ^ n }
-    ensures are { (w : SurdTable) → IsLetterOf n p commuting.now negative.now → AreWeights (4 ^ n) w weights.now.wholes weights.now.parts
-        → AreWeights (4 ^ n) (before_letter n p divisions w) before.new.wholes before.new.parts }
-{
-    before.take_before(weights, commuting, negative, p, divisions);
-}
-
 /// Writes the sums of the word's columns, by the weights of the fold and of the digits before a letter.
 fn weigh_front(
     n: u8,
     columns: &Columns,
-    fold: &Weights,
+    folds: &Folds,
     class: &Class,
     commuting: &[bool],
     negative: &[bool],
@@ -137,25 +114,16 @@ fn weigh_front(
 )
     requires room { IsFrontRoom n front.old }
     requires columns { columns.now.size ≡ 4 ^ n }
-    requires fold { length fold.now.wholes ≡ 4 ^ n }
+    requires folds { AreFolds n folds.now }
     requires class { IsClassRoom n class.now }
     requires letter { p < 4 ^ n }
     requires commuting { length commuting.now ≡ 4 ^ n }
     requires negative { length negative.now ≡ 4 ^ n }
     ensures room { IsFrontRoom n front.new }
     ensures sums { (m : SurdTable) (letters : List ℕ) → IsLetterOf n p commuting.now negative.now → HoldsColumns (4 ^ n) m columns.now
-        → AreWeights (4 ^ n) (weights (4 ^ n)) fold.now.wholes fold.now.parts → IsClass n letters class.now
+        → IsClass n letters class.now
         → AreFrontSums n p divisions class.now.span.items m front.new.folds.items front.new.highs.items front.new.lows.items }
 {
-    take_before(
-        n,
-        fold,
-        commuting,
-        negative,
-        p,
-        divisions,
-        &mut front.fold_before,
-    );
     take_before(
         n,
         &class.high,
@@ -174,9 +142,30 @@ fn weigh_front(
         divisions,
         &mut front.low_before,
     );
+    if divisions == 1 {
+        take_before(
+            n,
+            &folds.plain,
+            commuting,
+            negative,
+            p,
+            divisions,
+            &mut front.fold_before,
+        );
+        weigh_columns(
+            columns,
+            &front.fold_before,
+            &front.high_before,
+            &front.low_before,
+            &mut front.folds,
+            &mut front.highs,
+            &mut front.lows,
+        );
+        return;
+    }
     weigh_columns(
         columns,
-        &front.fold_before,
+        &folds.before[p],
         &front.high_before,
         &front.low_before,
         &mut front.folds,
@@ -203,6 +192,8 @@ impl Suffix {
         blocks.take(&span);
         let mut classes = new_classes(alloc, n)?;
         take_classes(n, &span, &blocks, &mut classes);
+        let turns = Turns::new(alloc, n)?;
+        let folds = Folds::new(alloc, n, &turns)?;
         Ok(Suffix {
             word: Word::empty(n),
             channel,
@@ -211,8 +202,8 @@ impl Suffix {
             span,
             blocks,
             classes,
-            turns: Turns::new(alloc, n)?,
-            fold: Weights::of_fold(alloc, n)?,
+            turns,
+            folds,
             powers: place_powers(alloc, n)?,
             top: top_power(n),
             front: Front::new(alloc, n)?,
@@ -267,7 +258,7 @@ impl Suffix {
         weigh_front(
             self.word.qubits(),
             &self.columns,
-            &self.fold,
+            &self.folds,
             class,
             commuting,
             negative,

@@ -7,9 +7,7 @@ use Rattle.channel_rep.specs.Cells.{table_of, scaled}
 use Rattle.coset_label.specs.Words.{RotationWord}
 use Rattle.coset_words.specs.Marks.{IsMarkOf}
 use Rattle.label_laws.specs.Congruence.{IsCongruent}
-use Rattle.label_laws.specs.Folds.{weights}
 use Rattle.label_laws.specs.Fronts.{halved}
-use Rattle.label_laws.specs.Sparse.{AreWeights}
 use Rattle.label_laws.specs.Totals.{column_power, tag_from}
 use Rattle.quick_label.specs.Classes.{IsClass}
 use Rattle.quick_label.specs.Columns.{HoldsColumns}
@@ -82,7 +80,6 @@ returns-clause-mark c =
       signs = letter_rows anti_sign c.qubits.result _ c.code-p.result c.code-p.result _ (inv.constants.turns ∙ sym q) refl c.negative-negative.ensures.value;
     } in
     let weighed_sums = c.weigh_front.ensures.sums table (p ∷ word.letters) letter (subst (λ k. HoldsColumns (4 ^ k) table c.self.inside.columns) (sym q) inv.columns)
-    (subst (λ k. AreWeights (4 ^ k) (weights (4 ^ k)) c.self.inside.fold.wholes c.self.inside.fold.parts) (sym q) inv.constants.fold)
     (subst (λ k. IsClass k (p ∷ word.letters) class) (sym q) its) in
     let sums : AreFrontSums n p d span table f.folds.items f.highs.items f.lows.items = subst (λ x. x) (λ i. AreFrontSums (q i) (code i) d span table f.folds.items f.highs.items f.lows.items) weighed_sums in
     let numbers = c.number_columns.new.numbers in

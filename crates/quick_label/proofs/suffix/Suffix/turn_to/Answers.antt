@@ -2,10 +2,9 @@ use Rattle.std.proofs.Common.{◌≡◌, ◌%◌, ◌^◌, rules, List, Bool, Al
 use Rattle.std.proofs.lemmas.List.{take_at, with_items_is}
 use Rattle.channel_rep.proofs.Squares.{codes_some}
 use Rattle.coset_label.specs.Words.{RotationWord}
-use Rattle.label_laws.specs.Folds.{weights}
-use Rattle.label_laws.specs.Sparse.{AreWeights}
 use Rattle.label_laws.specs.Totals.{column_power}
 use Rattle.quick_label.specs.Classes.{IsClassRoom, AreClasses}
+use Rattle.quick_label.specs.Folds.{AreFolds}
 use Rattle.quick_label.specs.Places.{ArePlacePowers}
 use Rattle.quick_label.specs.Rooms.{AreBlocks}
 use Rattle.quick_label.specs.Spans.{AreSpan}
@@ -66,8 +65,7 @@ invariant_of-self c =
           (c.take_classes.ensures.classes word.letters (subst (λ x. x) (λ i. AreSpan (sym q i) word.letters (sym (c.deref-2.ensures.value ∙ kept) i)) spanned)));
       constants = record {
         turns = inv.constants.turns ∙ sym own;
-        long = inv.constants.long ∙ more;
-        fold = subst (λ k. AreWeights (4 ^ k) (weights (4 ^ k)) c.self.inside.fold.wholes c.self.inside.fold.parts) (sym own) inv.constants.fold;
+        folds = subst (λ k. AreFolds k c.self.inside.folds) (sym own) inv.constants.folds;
         powers = subst (λ k. ArePlacePowers k c.self.inside.powers.items) (sym own) inv.constants.powers;
         top = subst (λ k. c.self.inside.top ≡ column_power k ^ 4 ^ k % 2 ^ 64) (sym own) inv.constants.top;
         blocks = c.take-3.ensures.size ∙ inv.constants.blocks ∙ more;
