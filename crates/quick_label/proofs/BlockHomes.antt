@@ -128,7 +128,7 @@ module _ (size : ℕ) (span : List Bool) (s : MarksSubspace size span) where
 
   -- at the end each code has one, and two have the same exactly where they lie in one block
   pub found_homes : (code : ℕ) (homes : List ℕ) → code ≡ size → AreFound size span code homes → AreHomes size span homes
-  found_homes code homes end found = record { below = λ x l. omega (arith, (home x l).low, end); same = λ x y l m. by x y l m (in_block span x y) refl }
+  found_homes code homes end found = record { below = λ x l. omega (arith, (home x l).low, end); inside = λ x l. (home x l).inside; same = λ x y l m. by x y l m (in_block span x y) refl }
     where
       home : (x : ℕ) → x < size → HasHome span code x (slice_index homes x)
       home x l = elim (found x l) [ inl h ↦ absurd (apart (in_block-self x) (h.new x (omega arith))) | inr h ↦ h ]

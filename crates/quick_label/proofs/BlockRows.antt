@@ -2,7 +2,7 @@
 use Rattle.std.proofs.Common.{◌≡◌, ◌≢◌, ℕ, zero, suc, ◌+◌, ◌-◌, ◌*◌, ◌/◌, ◌<◌, ◌≤◌, Bool, List, [], ◌∷◌, ◌++◌, length, take, drop, reverse, filter, cond, slice_index, inl, inr, refl, ap, sym, ◌∙◌, subst, arith, get_or-set_same, get_or-set_other, length-take, length-drop, length-append}
 use Rattle.std.specs.List.{count_by, range_with_len}
 use Rattle.std.proofs.Math.ListN.{set, replicate, get_or-append}
-use Rattle.std.proofs.lemmas.Bool.{cases_eq, eq-eqb, ne_eqb}
+use Rattle.std.proofs.lemmas.Bool.{cases_eq, eq-eqb, ne_eqb, eqb-true}
 use Rattle.std.proofs.lemmas.List.{length-reverse, reverse-append, get_or_push, get_or-take, get_or-drop, ext_get_or, length-replicate, get_or-replicate}
 use Rattle.std.proofs.lemmas.List.Sums.{length-filter, count_by-le-length}
 use Rattle.std.proofs.lemmas.List.FromFn.{length-range_with_len}
@@ -231,8 +231,12 @@ module _ (size : ℕ) (span : List Bool) (homes rows counts behind : List ℕ) (
       p.followed row l
       ∙ count_range (lives_at homes (slice_index homes row)) (in_block span row) (row + 1) (size - 1 - row) (λ y m. a.same row y l (omega arith))
 
+  -- a home is its own
+  settled : (x : ℕ) → x < size → slice_index homes (slice_index homes x) ≡ slice_index homes x
+  settled x l = sym (eqb-true _ _ (a.same (slice_index homes x) x (a.below x l) l ∙ a.inside x l))
+
   pub blocks_held : AreBlocks size span held
-  blocks_held = record { long = refl; rows = rows_held; behind = behind_held }
+  blocks_held = record { long = refl; homes = a.inside; settled = settled; rows = rows_held; behind = behind_held }
 
   pub small_held : ((home : ℕ) → home < size → slice_index counts home ≤ 16) → HasSmallBlocks size span
   small_held few = record {

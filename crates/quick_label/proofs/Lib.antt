@@ -28,3 +28,4 @@ pub mod SuffixStarts
 pub mod BlockHomes
 pub mod BlockRows
 pub mod SuffixFacts
+pub mod LetterClasses

@@ -3,8 +3,10 @@ use Rattle.std.proofs.Common.{◌≡◌, ℕ, ◌^◌, ◌<◌, ◌≤◌, inl, 
 use Rattle.channel_rep.specs.Cells.{table_of, scaled}
 use Rattle.channel_rep.specs.Tables.{IsBuiltOf}
 use Rattle.coset_label.specs.Words.{RotationWord}
+use Rattle.quick_label.specs.Classes.{AreClasses}
 use Rattle.quick_label.specs.Columns.{HoldsColumns}
 use Rattle.quick_label.specs.ParityWords.{HoldsParities}
+use Rattle.quick_label.specs.Rooms.{AreBlocks}
 use Rattle.quick_label.specs.Spans.{AreSpan}
 use Rattle.quick_label.specs.Suffixes.{SuffixParts, HasConstants, IsSuffix}
 
@@ -17,6 +19,8 @@ pub record AreEmptyWordParts (n : ℕ) (s : SuffixParts) : Type 0 where
   pub columns : HoldsColumns (4 ^ s.channel.qubits) (table_of s.channel) s.columns
   pub parities : HoldsParities s.channel.qubits (table_of s.channel) s.parities
   pub span : AreSpan n [] s.span
+  pub blocks : AreBlocks (4 ^ n) s.span s.blocks
+  pub classes : AreClasses n [] s.blocks.homes s.classes
   pub constants : HasConstants n s
 
 module _ (n : ℕ) (some : 0 < n) (few : n ≤ 3) (s : SuffixParts) (are : AreEmptyWordParts n s) where
@@ -34,12 +38,16 @@ module _ (n : ℕ) (some : 0 < n) (few : n ≤ 3) (s : SuffixParts) (are : AreEm
     columns = columns;
     parities = subst (λ (k : ℕ). HoldsParities k (table_of s.channel) s.parities) are.qubits are.parities;
     span = are.span;
+    blocks = are.blocks;
+    classes = are.classes;
     constants = record {
       turns = are.constants.turns;
-      long = are.constants.long;
-      fold = are.constants.fold;
+      folds = are.constants.folds;
       powers = are.constants.powers;
       top = are.constants.top;
+      blocks = are.constants.blocks;
+      classes = are.constants.classes;
+      rooms = are.constants.rooms;
       front = are.constants.front;
     };
   }

@@ -11,8 +11,6 @@ use Rattle.quick_label.specs.declared.front.Front.{Front}
 -- a place for each of the 4^n columns in all of it
 pub record IsFrontRoom (n : ℕ) (f : Front) : Type 0 where
   pub span : length f.span.items ≡ 4 ^ n
-  pub blocks : f.blocks.size ≡ 4 ^ n
-  pub behind : length f.behind.wholes ≡ 4 ^ n
   pub fold_before : length f.fold_before.wholes ≡ 4 ^ n
   pub high_before : length f.high_before.wholes ≡ 4 ^ n
   pub low_before : length f.low_before.wholes ≡ 4 ^ n

@@ -14,3 +14,5 @@ pub mod Places
 pub mod FrontRooms
 pub mod Suffixes
 pub mod Sums
+pub mod Classes
+pub mod Folds

@@ -36,9 +36,15 @@ pub record MarksSubspace (size : ℕ) (span : List Bool) : Type 0 where
   pub zero : in_block span 0 0 ≡ true
   pub closed : (x y z : ℕ) → x < size → y < size → z < size → in_block span x y ≡ true → in_block span y z ≡ true → in_block span x z ≡ true
 
--- these are the blocks of the span
+-- each code lies in the block of its home
+abbrev pub AreAtHome : ℕ → List Bool → List ℕ → Type 0
+AreAtHome size span homes = (x : ℕ) → x < size → in_block span (slice_index homes x) x ≡ true
+
+-- these are the blocks of the span, and a home is its own
 pub record AreBlocks (size : ℕ) (span : List Bool) (held : HeldBlocks) : Type 0 where
   pub long : held.size ≡ size
+  pub homes : AreAtHome size span held.homes
+  pub settled : (x : ℕ) → x < size → slice_index held.homes (slice_index held.homes x) ≡ slice_index held.homes x
   pub rows : (column : ℕ) → column < size → held_rows held column ≡ block_rows size span column
   pub behind : (row : ℕ) → row < size → slice_index held.behind row ≡ rows_behind size span row
 
@@ -50,6 +56,7 @@ pub record HasSmallBlocks (size : ℕ) (span : List Bool) : Type 0 where
 -- codes have one home exactly where they lie in one block
 pub record AreHomes (size : ℕ) (span : List Bool) (homes : List ℕ) : Type 0 where
   pub below : (x : ℕ) → x < size → slice_index homes x < size
+  pub inside : AreAtHome size span homes
   pub same : (x y : ℕ) → x < size → y < size → (slice_index homes y == slice_index homes x) ≡ in_block span x y
 
 -- whether a row has this home

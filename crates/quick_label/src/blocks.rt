@@ -137,6 +137,15 @@ impl Blocks {
         self.size
     }
 
+    /// The home of a code's block, which is the same for all codes of the block and one of them.
+    pub fn home(&self, code: usize) -> usize
+        requires { code < self.now.size }
+        ensures value { result ≡ slice_index self.now.homes code }
+        ensures below { result < self.now.size }
+    {
+        self.homes[code] as usize
+    }
+
     /// The rows of a column's block, the last first.
     pub fn rows_of(&self, column: usize) -> &[u8]
         requires { column < self.now.size }

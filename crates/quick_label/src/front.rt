@@ -14,11 +14,8 @@ use std::alloc::{AllocError, Global};
 /// Room for what a letter before a word makes.
 #[derive(Drop)]
 pub struct Front {
-    /// The span of the letter and the word.
+    /// A span, while another is made of it.
     pub span: Vec<bool>,
-    pub blocks: Blocks,
-    /// The weights of digits behind the letter.
-    pub behind: Weights,
     /// The weights before the letter that make the sums behind it, by those of the fold, of the high digits and of the low ones.
     pub fold_before: Weights,
     pub high_before: Weights,
@@ -42,8 +39,6 @@ impl Front {
         let size = codes(n);
         Ok(Front {
             span: vec![in alloc; false; size]?,
-            blocks: Blocks::new(alloc, n)?,
-            behind: Weights::new(alloc, n)?,
             fold_before: Weights::new(alloc, n)?,
             high_before: Weights::new(alloc, n)?,
             low_before: Weights::new(alloc, n)?,

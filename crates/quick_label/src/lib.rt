@@ -5,7 +5,9 @@
 //! channel of the longer word and no label.
 #![tactic(auto)]
 
+mod before;
 mod blocks;
+mod classes;
 mod columns;
 mod front;
 pub mod laws;

@@ -4,14 +4,16 @@ ghost use Rattle.channel_rep.specs.Cells.{scaled, table_of, IsReduced};
 ghost use Rattle.channel_rep.specs.Tables.{SurdTable, IsBuiltOf};
 ghost use Rattle.coset_label.specs.Words.{RotationWord, IsShortWord, most_letters, word_steps};
 ghost use Rattle.coset_words.specs.Marks.{IsMarkOf};
-ghost use Rattle.label_laws.specs.Folds.{weights};
-ghost use Rattle.label_laws.specs.Sparse.{AreWeights};
+ghost use Rattle.quick_label.specs.Classes.{IsClassRoom, IsClass};
 ghost use Rattle.quick_label.specs.Columns.{HoldsColumns};
+ghost use Rattle.quick_label.specs.Folds.{AreFolds};
 ghost use Rattle.quick_label.specs.FrontRooms.{IsFrontRoom, AreFrontSums};
-ghost use Rattle.quick_label.specs.Rooms.{AreBlocks};
 ghost use Rattle.quick_label.specs.Spans.{AreSpan};
-ghost use Rattle.quick_label.specs.Weights.{before_letter, IsLetterOf};
+ghost use Rattle.quick_label.specs.Weights.{IsLetterOf};
 
+use crate::before::{Folds, take_before};
+use crate::blocks::Blocks;
+use crate::classes::{Class, new_classes, take_classes};
 use crate::columns::Columns;
 use crate::front::{Front, find_leads, number_columns};
 use crate::parities::Parities;
@@ -19,7 +21,6 @@ use crate::places::{find_places, place_powers, placed_sum, tag_of_sum, top_power
 use crate::spans::{codes, empty_span, widen};
 use crate::sums::weigh_columns;
 use crate::turns::Turns;
-use crate::weights::Weights;
 use channel_rep::Channel;
 use coset_label::{Scratch, Word, channel_of_word, label_of_front};
 use coset_words::{Mark, mark_of};
@@ -38,8 +39,12 @@ pub struct Suffix {
     columns: Columns,
     parities: Parities,
     span: Vec<bool>,
+    /// The blocks of the span.
+    blocks: Blocks,
+    /// The classes of letters before the word, each at the home of its letters.
+    classes: Vec<Class>,
     turns: Turns,
-    fold: Weights,
+    folds: Folds,
     powers: Vec<u64>,
     top: u64,
     front: Front,
@@ -60,8 +65,10 @@ impl Model for Suffix {
       columns = s.columns;
       parities = s.parities;
       span = s.span.items;
+      blocks = s.blocks;
+      classes = s.classes.items;
       turns = s.turns;
-      fold = s.fold;
+      folds = s.folds;
       powers = s.powers.items;
       top = s.top;
       front = s.front;
@@ -93,33 +100,12 @@ fn most_exponent_behind(divisions: u8) -> u32
     if divisions > 0 { 5 } else { 6 }
 }
 
-/// Makes the weights before a letter that make sums behind it by given weights.
-fn take_before(
-    n: u8,
-    weights: &Weights,
-    commuting: &[bool],
-    negative: &[bool],
-    p: usize,
-    divisions: u8,
-    before: &mut Weights,
-)
-    requires weights { length weights.now.wholes ≡ 4 ^ n }
-    requires letter { p < 4 ^ n }
-    requires commuting { length commuting.now ≡ 4 ^ n }
-    requires negative { length negative.now ≡ 4 ^ n }
-    requires before { length before.old.wholes ≡ 4 ^ n }
-    ensures long { length before.new.wholes ≡ 4 ^ n }
-    ensures are { (w : SurdTable) → IsLetterOf n p commuting.now negative.now → AreWeights (4 ^ n) w weights.now.wholes weights.now.parts
-        → AreWeights (4 ^ n) (before_letter n p divisions w) before.new.wholes before.new.parts }
-{
-    before.take_before(weights, commuting, negative, p, divisions);
-}
-
 /// Writes the sums of the word's columns, by the weights of the fold and of the digits before a letter.
 fn weigh_front(
     n: u8,
     columns: &Columns,
-    fold: &Weights,
+    folds: &Folds,
+    class: &Class,
     commuting: &[bool],
     negative: &[bool],
     p: usize,
@@ -128,49 +114,58 @@ fn weigh_front(
 )
     requires room { IsFrontRoom n front.old }
     requires columns { columns.now.size ≡ 4 ^ n }
-    requires fold { length fold.now.wholes ≡ 4 ^ n }
+    requires folds { AreFolds n folds.now }
+    requires class { IsClassRoom n class.now }
     requires letter { p < 4 ^ n }
     requires commuting { length commuting.now ≡ 4 ^ n }
     requires negative { length negative.now ≡ 4 ^ n }
     ensures room { IsFrontRoom n front.new }
-    ensures span { front.new.span ≡ front.old.span }
-    ensures blocks { front.new.blocks ≡ front.old.blocks }
-    ensures sums { (m : SurdTable) (span : List Bool) → IsLetterOf n p commuting.now negative.now → HoldsColumns (4 ^ n) m columns.now
-        → AreWeights (4 ^ n) (weights (4 ^ n)) fold.now.wholes fold.now.parts → AreBlocks (4 ^ n) span front.old.blocks
-        → AreFrontSums n p divisions span m front.new.folds.items front.new.highs.items front.new.lows.items }
+    ensures sums { (m : SurdTable) (letters : List ℕ) → IsLetterOf n p commuting.now negative.now → HoldsColumns (4 ^ n) m columns.now
+        → IsClass n letters class.now
+        → AreFrontSums n p divisions class.now.span.items m front.new.folds.items front.new.highs.items front.new.lows.items }
 {
     take_before(
         n,
-        fold,
-        commuting,
-        negative,
-        p,
-        divisions,
-        &mut front.fold_before,
-    );
-    front.behind.take_high(&front.blocks);
-    take_before(
-        n,
-        &front.behind,
+        &class.high,
         commuting,
         negative,
         p,
         divisions,
         &mut front.high_before,
     );
-    front.behind.take_low(&front.blocks);
     take_before(
         n,
-        &front.behind,
+        &class.low,
         commuting,
         negative,
         p,
         divisions,
         &mut front.low_before,
     );
+    if divisions == 1 {
+        take_before(
+            n,
+            &folds.plain,
+            commuting,
+            negative,
+            p,
+            divisions,
+            &mut front.fold_before,
+        );
+        weigh_columns(
+            columns,
+            &front.fold_before,
+            &front.high_before,
+            &front.low_before,
+            &mut front.folds,
+            &mut front.highs,
+            &mut front.lows,
+        );
+        return;
+    }
     weigh_columns(
         columns,
-        &front.fold_before,
+        &folds.before[p],
         &front.high_before,
         &front.low_before,
         &mut front.folds,
@@ -193,14 +188,22 @@ impl Suffix {
         parities.take(&channel);
         let mut span = vec![in alloc; false; codes(n)]?;
         empty_span(&mut span);
+        let mut blocks = Blocks::new(alloc, n)?;
+        blocks.take(&span);
+        let mut classes = new_classes(alloc, n)?;
+        take_classes(n, &span, &blocks, &mut classes);
+        let turns = Turns::new(alloc, n)?;
+        let folds = Folds::new(alloc, n, &turns)?;
         Ok(Suffix {
             word: Word::empty(n),
             channel,
             columns,
             parities,
             span,
-            turns: Turns::new(alloc, n)?,
-            fold: Weights::of_fold(alloc, n)?,
+            blocks,
+            classes,
+            turns,
+            folds,
             powers: place_powers(alloc, n)?,
             top: top_power(n),
             front: Front::new(alloc, n)?,
@@ -227,6 +230,8 @@ impl Suffix {
         self.columns.take(&self.channel);
         self.parities.take(&self.channel);
         span_of(word, &mut self.span, &mut self.front.span);
+        self.blocks.take(&self.span);
+        take_classes(word.qubits(), &self.span, &self.blocks, &mut self.classes);
         self.word = word;
     }
 
@@ -244,16 +249,17 @@ impl Suffix {
         if exponent > most_exponent_behind(divisions) {
             return None;
         }
-        let front = &mut self.front;
-        widen(&self.span, p, &mut front.span);
-        if !front.blocks.take(&front.span) {
+        let class = &self.classes[self.blocks.home(p)];
+        if !class.small {
             return None;
         }
+        let front = &mut self.front;
         let negative = self.turns.negative(p);
         weigh_front(
             self.word.qubits(),
             &self.columns,
-            &self.fold,
+            &self.folds,
+            class,
             commuting,
             negative,
             p,
@@ -261,7 +267,7 @@ impl Suffix {
             front,
         );
         number_columns(&front.highs, &front.lows, divisions > 0, &mut front.numbers);
-        if !find_leads(&front.numbers, &front.blocks, &mut front.leads) {
+        if !find_leads(&front.numbers, &class.blocks, &mut front.leads) {
             return None;
         }
         find_places(

@@ -2,22 +2,22 @@ use Rattle.std.proofs.Common.{◌≡◌, ℕ, false, ◌+◌, ◌-◌, ◌*◌, 
 use Rattle.std.specs.Prelude.{nat_lt, if◌then◌else◌}
 use Rattle.std.proofs.lemmas.List.{with_items_is}
 use Rattle.pauli_basis.specs.Products.{commute, anti_sign}
+use Rattle.channel_rep.proofs.Squares.{codes_few}
 use Rattle.channel_rep.specs.Cells.{table_of, scaled}
 use Rattle.coset_label.specs.Words.{RotationWord}
 use Rattle.coset_words.specs.Marks.{IsMarkOf}
 use Rattle.label_laws.specs.Congruence.{IsCongruent}
-use Rattle.label_laws.specs.Folds.{weights}
 use Rattle.label_laws.specs.Fronts.{halved}
-use Rattle.label_laws.specs.Sparse.{AreWeights}
 use Rattle.label_laws.specs.Totals.{column_power, tag_from}
+use Rattle.quick_label.specs.Classes.{IsClass}
 use Rattle.quick_label.specs.Columns.{HoldsColumns}
 use Rattle.quick_label.specs.FrontRooms.{IsFrontRoom, AreFrontSums, AreHalves, AreLedBy}
 use Rattle.quick_label.specs.Places.{AreColumnNumbers, AreLeadRows, ArePlaces, ArePlacePowers, TellSigns}
 use Rattle.quick_label.specs.Rooms.{AreBlocks, HasSmallBlocks}
 use Rattle.quick_label.specs.Weights.{IsLetterOf}
-use Rattle.quick_label.proofs.Closed.{closed_by}
+use Rattle.quick_label.proofs.LetterClasses.{class_of_letter}
 use Rattle.quick_label.proofs.QuickMarks.{least_exponent, mark_is}
-use Rattle.quick_label.proofs.SuffixFacts.{letter_rows, divisions_fit, span_subspace, span_widened}
+use Rattle.quick_label.proofs.SuffixFacts.{letter_rows, divisions_fit}
 use Rattle.quick_label.proofs.suffix.Suffix.quick_mark.Goals as goal
 
 pub overflow_sub-exponent : goal.overflow_sub-exponent
@@ -31,34 +31,27 @@ overflow_sub-exponent c =
     let low = divisions_fit inv c.args.letter.code lp c.requires.other c.divisions-divisions.result count in
     subst (λ k. c.divisions-divisions.result ≤ k + 1) (sym c.exponent.ensures.value) low
 
-pub widen-requires-clause-closed : goal.widen-requires-clause-closed
-widen-requires-clause-closed c =
-    let n = c.self.inside.word.qubits in
-    let own : c.args.letter.qubits ≡ n = c.requires.same ∙ ap (λ (w : RotationWord). w.qubits) (sym c.self.view_is) in
-    closed_by n c.code-p.result _ (ap length c.deref.ensures.value ∙ c.self.invariant.span.long) (subst (λ k. c.code-p.result < 4 ^ k) own c.code-p.ensures.below)
-
-pub take-requires : goal.take-requires
-take-requires c =
-    let n = c.self.inside.word.qubits in
-    let own : c.args.letter.qubits ≡ n = c.requires.same ∙ ap (λ (w : RotationWord). w.qubits) (sym c.self.view_is) in
-    let lp : c.code-p.result < 4 ^ n = subst (λ k. c.code-p.result < 4 ^ k) own c.code-p.ensures.below in
-    let widened = span_widened n c.args.letter.code c.code-p.result c.self.inside.word.letters c.deref.result.now _ c.widen.new.wider c.deref-2.result.now c.deref.ensures.value c.self.invariant.span c.code-p.ensures.value c.widen.ensures
-    (λ long. c.deref-2.ensures.value ∙ with_items_is c.self.inside.front.span c.widen.new.wider
-    (long ∙ sym c.self.invariant.constants.front.span ∙ sym (ap length c.deref_mut.ensures.value) ∙ c.deref_mut.ensures.len)) in
-    span_subspace n (c.args.letter.code ∷ c.self.inside.word.letters) c.deref-2.result.now (omega arith) widened c.self.inside.front.blocks.size c.self.invariant.constants.front.blocks
-
 pub placed_sum-sum-requires-clause-below : goal.placed_sum-sum-requires-clause-below
 placed_sum-sum-requires-clause-below c = λ k d l.
     let inv = c.self.invariant in
     let n = c.self.inside.word.qubits in
     let f = c.weigh_front.new.front in
     let room : IsFrontRoom n f = subst (λ j. IsFrontRoom j f) c.qubits.ensures.value c.weigh_front.ensures.room in
-    let long : length c.find_places.new.places ≡ f.places.len = c.find_places.auto.places ∙ c.deref_mut-4.ensures.len in
-    let items : c.deref-10.result.now ≡ c.find_places.new.places = c.deref-10.ensures.value ∙ with_items_is f.places c.find_places.new.places long in
+    let long : length c.find_places.new.places ≡ f.places.len = c.find_places.auto.places ∙ c.deref_mut-3.ensures.len in
+    let items : c.deref-8.result.now ≡ c.find_places.new.places = c.deref-8.ensures.value ∙ with_items_is f.places c.find_places.new.places long in
     let below = c.find_places.ensures.below k d (subst (λ p. k < length p) items l) in
-    let size : length c.find_places.new.places ≡ length c.deref-11.result.now =
-    c.find_places.auto.places ∙ ap length c.deref_mut-4.ensures.value ∙ room.places ∙ sym inv.constants.powers.long ∙ sym (ap length c.deref-11.ensures.value) in
-    subst (λ p. slice_index_or p k d < length c.deref-11.result.now) (sym items) (subst (λ j. slice_index_or c.find_places.new.places k d < j) size below)
+    let size : length c.find_places.new.places ≡ length c.deref-9.result.now =
+    c.find_places.auto.places ∙ ap length c.deref_mut-3.ensures.value ∙ room.places ∙ sym inv.constants.powers.long ∙ sym (ap length c.deref-9.ensures.value) in
+    subst (λ p. slice_index_or p k d < length c.deref-9.result.now) (sym items) (subst (λ j. slice_index_or c.find_places.new.places k d < j) size below)
+
+pub find_places-requires-clause-few : goal.find_places-requires-clause-few
+find_places-requires-clause-few c =
+    let f = c.weigh_front.new.front in
+    let room : IsFrontRoom c.self.inside.word.qubits f = subst (λ j. IsFrontRoom j f) c.qubits.ensures.value c.weigh_front.ensures.room in
+    let long : length c.deref-4.result.now ≡ 4 ^ c.self.inside.word.qubits =
+    ap length (c.deref-4.ensures.value ∙ with_items_is f.numbers c.number_columns.new.numbers (c.number_columns.ensures.long ∙ c.deref_mut.ensures.len))
+    ∙ c.number_columns.ensures.long ∙ ap length c.deref_mut.ensures.value ∙ room.numbers in
+    omega (arith, codes_few c.self.inside.word.qubits c.self.invariant.word.few)
 
 pub returns-clause-mark : goal.returns-clause-mark
 returns-clause-mark c =
@@ -75,52 +68,50 @@ returns-clause-mark c =
     let q = c.qubits.ensures.value in
     let f = c.weigh_front.new.front in
     let room : IsFrontRoom n f = subst (λ j. IsFrontRoom j f) q c.weigh_front.ensures.room in
-    let span = c.deref-2.result.now in
-    let blocks : AreBlocks (4 ^ n) span c.take.new.self = subst (λ k. AreBlocks k span c.take.new.self) inv.constants.front.blocks c.take.ensures.blocks in
-    let blocks_after : AreBlocks (4 ^ n) span f.blocks = subst (AreBlocks (4 ^ n) span) (sym c.weigh_front.ensures.blocks) blocks in
-    let few_rows : HasSmallBlocks (4 ^ n) span = subst (λ k. HasSmallBlocks k span) inv.constants.front.blocks (c.take.ensures.small c.if-not-take.false) in
+    let class = c.index-class.result.now in
+    let span = class.span.items in
+    let its : IsClass n (p ∷ word.letters) class =
+    class_of_letter n word.letters c.self.inside.span.items c.self.inside.blocks c.self.inside.classes.items p c.code-p.result c.home.result class inv.span inv.blocks inv.classes
+    inv.constants.classes code (subst (λ k. k < 4 ^ n) (sym code) lp) c.home.ensures.value (subst (λ k. c.home.result < k) inv.constants.blocks c.home.ensures.below) c.index-class.ensures in
+    let few_rows : HasSmallBlocks (4 ^ n) span = its.small c.if-not-class.false in
     let letter : IsLetterOf c.qubits.result c.code-p.result c.commuting-commuting.result.now c.negative-negative.result.now =
     record {
       commutes = letter_rows commute c.qubits.result _ c.code-p.result c.code-p.result _ (inv.constants.turns ∙ sym q) refl c.commuting-commuting.ensures.value;
       signs = letter_rows anti_sign c.qubits.result _ c.code-p.result c.code-p.result _ (inv.constants.turns ∙ sym q) refl c.negative-negative.ensures.value;
     } in
-    let weighed_sums = c.weigh_front.ensures.sums table span letter (subst (λ k. HoldsColumns (4 ^ k) table c.self.inside.columns) (sym q) inv.columns)
-    (subst (λ k. AreWeights (4 ^ k) (weights (4 ^ k)) c.self.inside.fold.wholes c.self.inside.fold.parts) (sym q) inv.constants.fold)
-    (subst (λ k. AreBlocks (4 ^ k) span c.take.new.self) (sym q) blocks) in
+    let weighed_sums = c.weigh_front.ensures.sums table (p ∷ word.letters) letter (subst (λ k. HoldsColumns (4 ^ k) table c.self.inside.columns) (sym q) inv.columns)
+    (subst (λ k. IsClass k (p ∷ word.letters) class) (sym q) its) in
     let sums : AreFrontSums n p d span table f.folds.items f.highs.items f.lows.items = subst (λ x. x) (λ i. AreFrontSums (q i) (code i) d span table f.folds.items f.highs.items f.lows.items) weighed_sums in
     let numbers = c.number_columns.new.numbers in
     let leads = c.find_leads.new.leads in
     let places = c.find_places.new.places in
-    let size : length c.deref_mut-2.result.now ≡ 4 ^ n = ap length c.deref_mut-2.ensures.value ∙ room.numbers in
-    let numbers_items = with_items_is f.numbers numbers (c.number_columns.ensures.long ∙ c.deref_mut-2.ensures.len) in
-    let leads_items = with_items_is f.leads leads (c.find_leads.auto.leads ∙ c.deref_mut-3.ensures.len) in
-    let places_items = with_items_is f.places places (c.find_places.auto.places ∙ c.deref_mut-4.ensures.len) in
-    let numbers_led : c.deref-5.result.now ≡ numbers = c.deref-5.ensures.value ∙ numbers_items in
-    let numbers_placed : c.deref-6.result.now ≡ numbers = c.deref-6.ensures.value ∙ numbers_items in
-    let numbers_summed : c.deref-9.result.now ≡ numbers = c.deref-9.ensures.value ∙ numbers_items in
-    let leads_placed : c.deref-7.result.now ≡ leads = c.deref-7.ensures.value ∙ leads_items in
-    let places_summed : c.deref-10.result.now ≡ places = c.deref-10.ensures.value ∙ places_items in
-    let widened = span_widened n c.args.letter.code c.code-p.result c.self.inside.word.letters c.deref.result.now _ c.widen.new.wider c.deref-2.result.now c.deref.ensures.value c.self.invariant.span c.code-p.ensures.value c.widen.ensures
-    (λ long. c.deref-2.ensures.value ∙ with_items_is c.self.inside.front.span c.widen.new.wider
-    (long ∙ sym c.self.invariant.constants.front.span ∙ sym (ap length c.deref_mut.ensures.value) ∙ c.deref_mut.ensures.len)) in
+    let size : length c.deref_mut.result.now ≡ 4 ^ n = ap length c.deref_mut.ensures.value ∙ room.numbers in
+    let numbers_items = with_items_is f.numbers numbers (c.number_columns.ensures.long ∙ c.deref_mut.ensures.len) in
+    let leads_items = with_items_is f.leads leads (c.find_leads.auto.leads ∙ c.deref_mut-2.ensures.len) in
+    let places_items = with_items_is f.places places (c.find_places.auto.places ∙ c.deref_mut-3.ensures.len) in
+    let numbers_led : c.deref-3.result.now ≡ numbers = c.deref-3.ensures.value ∙ numbers_items in
+    let numbers_placed : c.deref-4.result.now ≡ numbers = c.deref-4.ensures.value ∙ numbers_items in
+    let numbers_summed : c.deref-7.result.now ≡ numbers = c.deref-7.ensures.value ∙ numbers_items in
+    let leads_placed : c.deref-5.result.now ≡ leads = c.deref-5.ensures.value ∙ leads_items in
+    let places_summed : c.deref-8.result.now ≡ places = c.deref-8.ensures.value ∙ places_items in
     let low = subst (λ k. k + 1 - d ≤ (if nat_lt 0 d then 5 else 6)) c.exponent.ensures.value
     (subst (λ k. c.exponent.result + 1 - d ≤ k) c.most_exponent_behind.ensures c.if-exponent-most_exponent_behind.false) in
     let led : AreLedBy (4 ^ n) span numbers leads =
-    subst (λ x. x) (λ i. AreLedBy (room.blocks i) span (numbers_led i) leads)
-    (c.find_leads.ensures.leads span (subst (λ k. AreBlocks k span f.blocks) (sym room.blocks) blocks_after) c.if-not-find_leads.false) in
+    subst (λ x. x) (λ i. AreLedBy (its.blocks.long i) span (numbers_led i) leads)
+    (c.find_leads.ensures.leads span (subst (λ k. AreBlocks k span class.blocks) (sym its.blocks.long) its.blocks) c.if-not-find_leads.false) in
     subst (λ (w : RotationWord). IsMarkOf w.qubits (p ∷ w.letters) (record { exponent = c.exponent.result + 1 - d; tag = c.tag_of_sum-tag.result })) c.self.view_is
     (mark_is n inv.word.some inv.word.few word.letters p ((lp, c.requires.other), inv.word.word) (scaled c.self.inside.channel) inv.built
-    (least_exponent n c.self.inside.channel inv.qubits inv.reduced) d count span widened low few_rows
+    (least_exponent n c.self.inside.channel inv.qubits inv.reduced) d count span its.span low few_rows
     f.folds.items f.highs.items f.lows.items sums numbers
     (λ x y z halves column l. c.number_columns.ensures.numbers x y z
-    (subst (λ t. t) (λ i. AreHalves (sym size i) (sym c.deref-3.ensures.value i) (sym c.deref-4.ensures.value i) (nat_lt 0 d) x y z) halves) column (subst (λ k. column < k) (sym size) l))
+    (subst (λ t. t) (λ i. AreHalves (sym size i) (sym c.deref.ensures.value i) (sym c.deref-2.ensures.value i) (nat_lt 0 d) x y z) halves) column (subst (λ k. column < k) (sym size) l))
     leads led places
     (λ m packable are lead. c.find_places.ensures.places n span m (ap length numbers_placed ∙ c.number_columns.ensures.long ∙ size) packable
     (subst (AreColumnNumbers n span m) (sym numbers_placed) are) (subst (AreLeadRows n m) (sym leads_placed) lead))
     c.placed_sum-sum.result
-    (λ m z signs placed folds. c.placed_sum-sum.ensures n m z (ap length c.deref-8.ensures.value ∙ room.folds) (subst (ArePlacePowers n) (sym c.deref-11.ensures.value) inv.constants.powers)
+    (λ m z signs placed folds. c.placed_sum-sum.ensures n m z (ap length c.deref-6.ensures.value ∙ room.folds) (subst (ArePlacePowers n) (sym c.deref-9.ensures.value) inv.constants.powers)
     (subst (TellSigns n m) (sym numbers_summed) signs) (subst (ArePlaces n m) (sym places_summed) placed)
-    (subst (λ l. (column : ℕ) → column < 4 ^ n → IsCongruent (2 ^ 64) (z column) (slice_index l column)) (sym c.deref-8.ensures.value) folds))
+    (subst (λ l. (column : ℕ) → column < 4 ^ n → IsCongruent (2 ^ 64) (z column) (slice_index l column)) (sym c.deref-6.ensures.value) folds))
     _ (ap (λ k. k + 1 - d) c.exponent.ensures.value)
     (c.tag_of_sum-tag.ensures (column_power n ^ 4 ^ n) d inv.constants.top refl
     ∙ ap (λ k. tag_from ((k + 1 - d) * column_power n ^ 4 ^ n + halved d c.placed_sum-sum.result)) c.exponent.ensures.value))

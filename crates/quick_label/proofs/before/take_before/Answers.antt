@@ -2,7 +2,7 @@ use Rattle.std.proofs.Common.{◌^◌, ◌<◌, sym, subst}
 use Rattle.label_laws.specs.Sparse.{AreWeights}
 use Rattle.quick_label.specs.Weights.{before_letter}
 use Rattle.quick_label.proofs.Closed.{closed_by}
-use Rattle.quick_label.proofs.suffix.take_before.Goals as goal
+use Rattle.quick_label.proofs.before.take_before.Goals as goal
 
 pub take_before-requires-clause-closed : goal.take_before-requires-clause-closed
 take_before-requires-clause-closed c = closed_by c.args.n c.args.p _ c.requires.weights c.requires.letter
