@@ -270,11 +270,7 @@ impl Suffix {
         if !find_leads(&front.numbers, &class.blocks, &mut front.leads) {
             return None;
         }
-        find_places(
-            &front.numbers,
-            &front.leads,
-            &mut front.places,
-        );
+        find_places(&front.numbers, &front.leads, &mut front.places);
         let sum = placed_sum(0, &front.folds, &front.numbers, &front.places, &self.powers);
         let tag = tag_of_sum(exponent, sum, divisions > 0, self.top);
         Some(Mark { exponent, tag })
