@@ -90,8 +90,7 @@ module _ (n : ℕ) (some : 0 < n) (few : n ≤ 3) where
       let back = again.back in
       let whole : IsWord n (p ∷ (front ++ p ∷ back)) = subst (λ w. IsWord n (p ∷ w)) again.is is in
       let behind = word_behind n front (p ∷ back) whole.1 in
-      let y = square_shortens p is.0 back behind.1 in
-      (
+      let y = square_shortens p is.0 back behind.1 in (
         front ++ y.0,
         omega (arith, y.1, length-append front y.0, ap length again.is, length-append front (p ∷ back)),
         record {
