@@ -175,19 +175,7 @@ fn try_on<H: Threads + Sync, G: Turnstile + Sync, const N: u8>(
     }
 }
 
-/// A total of letters: two halves of so many, and one letter between them where it is odd.
-fn letters_of(half: u8, odd: bool) -> u32
-    ensures { result ≡ total_of half odd }
-{
-    if odd {
-        2 * half as u32 + 1
-    } else {
-        2 * half as u32
-    }
-}
-
-/// The least word, where it has so many letters and none has fewer. Nothing is asked where the target's exponent passes the
-/// total.
+/// The least word, where it has so many letters and none has fewer.
 pub fn try_total<H: Threads + Sync, G: Turnstile + Sync>(
     th: &H,
     alloc: Global,
@@ -205,9 +193,6 @@ pub fn try_total<H: Threads + Sync, G: Turnstile + Sync>(
     ensures some { IfOk result (λ r. IfSome r (IsLeastAnswer target.now.qubits (scaled target.now) (total_of half odd))) }
     ensures none { IfOk result (λ r. IfNone r (NoneBelow target.now.qubits (scaled target.now) (total_of half odd + 1))) }
 {
-    if target.exponent() > letters_of(half, odd) {
-        return Ok(None);
-    }
     match target.qubits() {
         1 => try_on::<_, _, 1>(th, alloc, level, target, half, odd, workers, gate),
         2 => try_on::<_, _, 2>(th, alloc, level, target, half, odd, workers, gate),
