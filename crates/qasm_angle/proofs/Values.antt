@@ -2,7 +2,7 @@
 -- no other.
 use Rattle.std.proofs.Common.{◌≡◌, ℕ, ◌+◌, ◌*◌, ◌/◌, ◌%◌, ◌<◌, Bool, true, false, cond, ◌&&◌, ◌⊎◌, inl, inr, ⊎_elim, List, [], ◌∷◌, ◌++◌, length, Option, Some, None, arith, ap, ◌∙◌, sym, refl, subst, add_assoc}
 use Rattle.std.specs.Prelude.{option_map, fold}
-use Rattle.std.specs.List.{sum_by}
+use Rattle.std.specs.List.{sum_by, list_any}
 use Rattle.std.proofs.lemmas.Bool.{cases_Bool, and_parts}
 use Rattle.std.proofs.lemmas.List.Sums.{sum_by-cons}
 use Rattle.std.proofs.lemmas.Nat.{mod_below}
@@ -360,3 +360,40 @@ few_eighths ss j h = go (are_exact h.0) h.2
     go : (t : Bool) → cond t (Eighths (eighths h.0)) Inexact ≡ Eighths j → j < 8
     go true e = let same : eighths h.0 ≡ j = cc in subst (λ (n : ℕ). n < 8) same (mod_below (sum_by signed_eighths h.0) 8 (omega arith))
     go false e = absurd (cc)
+
+-- whether a symbol is in no angle
+abbrev pub is_foreign : Symbol → Bool
+is_foreign Plus = false
+is_foreign Minus = false
+is_foreign Times = false
+is_foreign Over = false
+is_foreign Pi = false
+is_foreign (Digits d) = false
+is_foreign Foreign = true
+
+no_foreign : (p : Place) → place_behind p Foreign ≡ Nowhere
+unfolding place_behind
+no_foreign Start = refl
+no_foreign Signed = refl
+no_foreign (Factor d) = refl
+no_foreign (FactorTimes d) = refl
+no_foreign JustPi = refl
+no_foreign PiTimes = refl
+no_foreign (Multiple d) = refl
+no_foreign (Divided d) = refl
+no_foreign (Ratio d b) = refl
+no_foreign Nowhere = refl
+
+-- what makes an angle of a reading has no such symbol
+home_from : (ss : List Symbol) (r : AngleReading) → (value_from r ss ≡ NotAngle → ⊥) → list_any is_foreign ss ≡ false
+unfolding reading_behind
+home_from [] r h = refl
+home_from (Plus ∷ ss) r h = home_from ss (behind_sign false r (sum_at r.place r.sum r.minus)) h
+home_from (Minus ∷ ss) r h = home_from ss (behind_sign true r (sum_at r.place r.sum r.minus)) h
+home_from (Foreign ∷ ss) r h = absurd (h (ap (λ (p : Place). value_from (reading p r.minus r.sum) ss) (no_foreign r.place) ∙ dead r.minus r.sum ss))
+home_from (s ∷ ss) r h = home_from ss (reading (place_behind r.place s) r.minus r.sum) h
+
+-- nor has an angle
+pub home : (ss : List Symbol) → (value_of ss ≡ NotAngle → ⊥) → list_any is_foreign ss ≡ false
+unfolding reading_of
+home ss h = home_from ss start h

@@ -14,6 +14,7 @@ mod terms;
 pub use angles::{AngleValue, angle};
 pub use laws::one_value;
 pub use readings::AngleReading;
+pub use symbols::Symbol;
 
 #[cfg(test)]
 mod tests;

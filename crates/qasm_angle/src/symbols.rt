@@ -8,7 +8,7 @@ use qasm_lex::Kind;
 
 /// What a token is in an angle.
 #[derive(Clone, Copy)]
-pub(crate) enum Symbol {
+pub enum Symbol {
     /// `+`
     Plus,
     /// `-`

@@ -10,7 +10,7 @@ ghost use Rattle.qasm_reader.specs.Rows.{is_among, has_twin_names, has_stranger,
 ghost use Rattle.qasm_reader.specs.View.{size_or_nothing, name_list, names, entry, entries, known_behind, counted_size, AreKept};
 
 use crate::circuits::placed;
-use crate::definitions::{gates_by_name, size_by_name};
+use crate::definitions::{gates_by_name, gates_by_value, size_by_name, size_by_value};
 use crate::finding::{add_name, contains_name};
 use crate::forms::{Definition, Entry};
 use crate::gates::Size;
@@ -84,6 +84,7 @@ fn is_bad_entry<'a>(
 {
     match line {
         Entry::Barrier(args) => Ok(has_stranger(set, args)),
+        Entry::Spin(_, name) => Ok(!contains_name(set, name)),
         Entry::Call(_, args) if has_stranger(set, args) => Ok(true),
         Entry::Call(name, args) => is_bad_call(alloc, size_by_name(list, name), args),
     }
@@ -133,6 +134,7 @@ fn entry_size<'a>(list: &Definitions<'a>, line: &Entry<'a>) -> Size
     match line {
         Entry::Barrier(_) => NOTHING,
         Entry::Call(name, _) => size_or_nothing(size_by_name(list, name)),
+        Entry::Spin(rotation, _) => size_or_nothing(size_by_value(rotation.value)),
     }
 }
 
@@ -211,6 +213,10 @@ fn push_entry<'a>(
         Entry::Call(name, args) => {
             let places = places_among(alloc, among, args)?;
             push_placed(found, gates_by_name(list, name), &places)
+        }
+        Entry::Spin(rotation, name) => {
+            let place = place_among(among, name);
+            push_placed(found, gates_by_value(rotation.value), &[place])
         }
     }
 }

@@ -7,13 +7,13 @@ ghost use Rattle.qasm_reader.specs.Rows.{is_bad_entry};
 ghost use Rattle.std.specs.Option.{ForSome};
 ghost use Rattle.tc_circuit.specs.Model.{IsCircuit, t_count_of};
 ghost use Rattle.qasm_reader.specs.Limits.{most_qubits, most_t_gates, most_statements};
-ghost use Rattle.qasm_reader.specs.State.{value, start, with_name, gates_at, defined, declared, after};
+ghost use Rattle.qasm_reader.specs.State.{value, start, with_name, gate_in, gates_at, defined, declared, after};
 ghost use Rattle.qasm_reader.specs.Run.{IsTakeable};
-ghost use Rattle.qasm_reader.specs.View.{form, name_list, entries, size_of, counted_size, known_behind, gates_made, IsBehind, AreKept, state};
+ghost use Rattle.qasm_reader.specs.View.{form, name_list, entries, size_of, counted_size, gates_of, known_behind, gates_made, IsBehind, AreKept, state};
 
 use crate::bodies::gates_defined;
 use crate::circuits::{push_gates, t_count_at};
-use crate::definitions::{gates_by_name, push_definition};
+use crate::definitions::{gates_by_name, gates_by_value, push_definition};
 use crate::finding::{add_name, small_value};
 use crate::forms::{Definition, Form};
 use crate::gates::Size;
@@ -98,23 +98,37 @@ fn begun(alloc: Global, n: u8, circuit: Option<Circuit>) -> Circuit
     }
 }
 
-// The gates of the gate of a name, which may be known, on these qubits more.
+/// The gates of the gate that a form applies, which takes at most three arguments, on the numbers of these; none where it isn't
+/// known.
+fn gates_in<'b, 'a>(list: &'b Definitions<'a>, found: &Option<Form<'a>>) -> &'b [Gate]
+    requires kept { AreKept list.now }
+    requires narrow { IfSome (gate_in (known_behind known list.now.list.items) (option_map form found.now)) (λ g. g.arity ≤ most_qubits) }
+    ensures { result.now ≡ gates_of (gate_in (known_behind known list.now.list.items) (option_map form found.now)) }
+{
+    match found {
+        Some(Form::Apply(name, _)) => gates_by_name(list, name),
+        Some(Form::Turn(rotation, _)) => gates_by_value(rotation.value),
+        _ => &[],
+    }
+}
+
+/// The gates of the gate that a form applies, which may be known, on these qubits more.
 fn with_gates<'a>(
     alloc: Global,
     scan: Scan<'a>,
-    name: &'a [u8],
+    found: &Option<Form<'a>>,
     size: Option<Size>,
     qubits: &[u8],
 ) -> Result<Scan<'a>, AllocError>
     requires kept { AreKept scan.definitions }
-    requires is { size ≡ option_map size_of ((state scan).known name.now) }
-    requires narrow { IfSome ((state scan).known name.now) (λ g. g.arity ≤ most_qubits) }
+    requires is { size ≡ option_map size_of (gate_in (state scan).known (option_map form found.now)) }
+    requires narrow { IfSome (gate_in (state scan).known (option_map form found.now)) (λ g. g.arity ≤ most_qubits) }
     requires some { 0 < scan.qubits }
-    requires fit { IsCircuit scan.qubits (gates_at ((state scan).known name.now) qubits.now) }
-    requires few { t_count_of (state scan).gates + t_count_of (gates_at ((state scan).known name.now) qubits.now) ≤ most_t_gates }
+    requires fit { IsCircuit scan.qubits (gates_at (gate_in (state scan).known (option_map form found.now)) qubits.now) }
+    requires few { t_count_of (state scan).gates + t_count_of (gates_at (gate_in (state scan).known (option_map form found.now)) qubits.now) ≤ most_t_gates }
     ensures value { IfOk result (λ s. state s ≡ record (state scan.entry) {
       began = true;
-      gates = (state scan.entry).gates ++ gates_at ((state scan.entry).known name.now) qubits.now;
+      gates = (state scan.entry).gates ++ gates_at (gate_in (state scan.entry).known (option_map form found.now)) qubits.now;
     }) }
     ensures kept { IfOk result (λ s. s.definitions ≡ scan.entry.definitions) }
 {
@@ -131,7 +145,7 @@ fn with_gates<'a>(
     push_gates(
         &mut circuit,
         size,
-        gates_by_name(&definitions, name),
+        gates_in(&definitions, found),
         qubits,
     )?;
     Ok(Scan {
@@ -209,7 +223,7 @@ fn with_form<'a>(
     match form {
         Some(Form::Qreg(name, digits)) => with_qreg(scan, name, digits),
         Some(Form::Creg(name, _)) => with_creg(scan, name),
-        Some(Form::Apply(name, _)) => with_gates(alloc, scan, name, size, &qubits),
+        Some(Form::Apply(_, _) | Form::Turn(_, _)) => with_gates(alloc, scan, &form, size, &qubits),
         Some(Form::Define(definition)) => with_definition(alloc, scan, definition, body),
         _ => Ok(scan),
     }

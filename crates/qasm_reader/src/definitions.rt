@@ -2,13 +2,14 @@
 ghost use Rattle.std.specs.Prelude.{◌≡◌, ◌≤◌, ◌++◌, ◌∷◌, [], ℕ, List, Some, cond, OnOk, IfSome, IfNone, option_map};
 ghost use Rattle.std.specs.Str.{bytes_eq};
 ghost use Rattle.qasm_reader.specs.Limits.{most_qubits};
-ghost use Rattle.qasm_reader.specs.Known.{known};
+ghost use Rattle.qasm_reader.specs.Known.{known, turned};
 ghost use Rattle.qasm_reader.specs.View.{size_of, gate_of, gates_of, place_of, IsKept, known_behind, AreKept, IsDefinedAs, known_gate};
 ghost use Rattle.tc_circuit.specs.Model.{t_count_of};
 
 use crate::circuits::t_count;
-use crate::gates::{Known, Size, known_by_name};
+use crate::gates::{Known, Size, known_by_name, known_by_value};
 use crate::scan::{Defined, Definitions};
+use qasm_angle::AngleValue;
 use std::alloc::AllocError;
 use std::collections::BTreeMap;
 use tc_circuit::Gate;
@@ -112,5 +113,25 @@ pub(crate) fn gates_by_name<'b, 'a>(list: &'b Definitions<'a>, name: &'a [u8]) -
     match definition_of(list, name) {
         Some(defined) => &defined.gates,
         None => first_gates(name),
+    }
+}
+
+/// The size of the gate of an angle, if it is exact.
+pub(crate) fn size_by_value(value: AngleValue) -> Option<Size>
+    ensures { result ≡ option_map size_of (turned value) }
+{
+    match known_by_value(value) {
+        Some(gate) => Some(size_of(gate)),
+        None => None,
+    }
+}
+
+/// The gates of the gate of an angle; none where it isn't exact.
+pub(crate) fn gates_by_value(value: AngleValue) -> &'static [Gate]
+    ensures { result.now ≡ gates_of (turned value) }
+{
+    match known_by_value(value) {
+        Some(gate) => gate.gates,
+        None => &[],
     }
 }

@@ -10,6 +10,7 @@ use crate::finding::{find_register, small_value};
 use crate::forms::{Argument, Form};
 use crate::scan::{Register, Scan};
 use std::alloc::{AllocError, Global};
+use std::slice::from_ref;
 
 // Adds the qubits of a register.
 fn push_register(found: &mut Vec<u8>, first: u8, size: u8) -> Result<(), AllocError>
@@ -69,6 +70,7 @@ pub(crate) fn gate_qubits(
 {
     match found {
         Some(Form::Apply(_, list)) => qubits_of(alloc, &scan.registers, list),
+        Some(Form::Turn(_, argument)) => qubits_of(alloc, &scan.registers, from_ref(argument)),
         _ => Ok(Vec::new(alloc)),
     }
 }

@@ -141,7 +141,7 @@ fn circuit_of(alloc: Global, scan: Scan) -> Option<Circuit>
 ///
 /// [`ReadFault::Refused`] with the number of the first reason for which the text is refused and its place, exactly where there is
 /// one ([`one_reading`](crate::one_reading)). A bad byte comes before a missing header, this before a statement, an earlier
-/// statement before a later one, and at one statement the reasons come in the order 3, 11, 12, 17, 4, 5, 6, 7, 8, 9, 18, 10;
+/// statement before a later one, and at one statement the reasons come in the order 3, 11, 12, 17, 4, 20, 5, 6, 7, 8, 9, 18, 10;
 /// last comes 8 for a text without qubits.
 pub fn read(alloc: Global, text: &[u8]) -> Result<Circuit, ReadFault>
     ensures ok { IfOk result (Reads text.now) }

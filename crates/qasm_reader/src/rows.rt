@@ -4,21 +4,23 @@ ghost use Rattle.std.specs.Prelude.{◌≡◌, ◌+◌, min, Option, option_map,
 ghost use Rattle.std.specs.Str.{bytes_eq};
 ghost use Rattle.std.specs.List.{list_any};
 ghost use Rattle.qasm_reader.specs.State.{find_register, gates_in};
-ghost use Rattle.qasm_reader.specs.Rows.{ends, is_foreign, is_call, is_beyond_bodies, is_definition, is_wide_definition, is_outside_profile, takes_other, has_other_arity, is_no_statement, takes_bare, has_bare, includes_other, is_not_in_profile, withheld, is_taken, is_unknown, arguments_of, has_no_register, is_outside, is_empty_size, has_bad_index, has_too_many_qubits, has_too_many_t, has_too_many_gates, applies, row_of};
-ghost use Rattle.qasm_reader.specs.View.{lexeme, lexemes, form, argument, arguments, register, registers, statement_of, IsBehind, AreKept, state};
+ghost use Rattle.qasm_reader.specs.Rows.{ends, is_foreign, is_call, is_beyond_bodies, is_definition, is_wide_definition, is_turn, defines, is_outside_profile, takes_other, has_other_arity, is_no_statement, takes_bare, has_bare, includes_other, is_not_in_profile, withheld, is_taken, is_unknown, is_exact, is_inexact_entry, has_inexact_angle, arguments_of, names_twice, has_no_register, is_outside, is_empty_size, has_bad_index, has_too_many_qubits, has_too_many_t, has_too_many_gates, applies, row_of};
+ghost use Rattle.qasm_reader.specs.View.{lexeme, lexemes, entry, form, argument, arguments, register, registers, statement_of, IsBehind, AreKept, state};
 
 use crate::circuits::{length_at, t_count_at};
 use crate::definitions::size_by_name;
 use crate::expand::has_twins;
 use crate::finding::{contains_name, find_register, small_value};
-use crate::forms::{Argument, Form};
+use crate::forms::{Argument, Entry, Form, is_rotation};
 use crate::gates::Size;
 use crate::lexemes::{Lexeme, closer, is_ident, is_kind, is_name};
 use crate::limits::{MOST_GATES, MOST_GATES_DEFINED, MOST_QUBITS, MOST_STATEMENTS, MOST_T_GATES};
 use crate::refusal::Refusal;
 use crate::scan::{Register, Scan};
 use crate::statements::Statement;
+use qasm_angle::AngleValue;
 use qasm_lex::Kind;
+use std::slice::from_ref;
 
 // Whether the last token is the one that ends a statement with this first token.
 fn ends(statement: &[Lexeme]) -> bool
@@ -85,18 +87,41 @@ fn is_definition(statement: &[Lexeme]) -> bool
     }
 }
 
-// Whether it is a definition of a gate that has parameters, or stands on the standard's own gates.
+// Whether it is a definition of a gate with a parenthesis in it, or a word of the standard's own gates.
 fn is_wide_definition(statement: &[Lexeme]) -> bool
     ensures { result ≡ is_wide_definition (lexemes statement.now) }
 {
     is_definition(statement) && has_beyond_bodies(statement)
 }
 
-// Whether it is a statement of OpenQASM 2.0 outside the profile, by its tokens.
-fn is_outside_profile(statement: &[Lexeme]) -> bool
-    ensures { result ≡ is_outside_profile (lexemes statement.now) }
+/// Whether the form is that of a gate of an angle.
+fn is_turn(found: &Option<Form>) -> bool
+    ensures { result ≡ is_turn (option_map form found.now) }
 {
-    is_foreign(statement) || is_call(statement) || is_wide_definition(statement)
+    match found {
+        Some(Form::Turn(_, _)) => true,
+        _ => false,
+    }
+}
+
+/// Whether the form is that of a definition.
+fn defines(found: &Option<Form>) -> bool
+    ensures { result ≡ defines (option_map form found.now) }
+{
+    match found {
+        Some(Form::Define(_)) => true,
+        _ => false,
+    }
+}
+
+/// Whether it is a statement of OpenQASM 2.0 outside the profile, by its tokens and where it has none of the forms that begin so.
+fn is_outside_profile(statement: &Statement) -> bool
+    ensures { result ≡ is_outside_profile (statement_of statement.now) }
+{
+    let ws = statement.lexemes;
+    is_foreign(ws)
+        || is_call(ws) && !is_turn(&statement.form)
+        || is_wide_definition(ws) && !defines(&statement.form)
 }
 
 fn takes_other(size: Option<Size>, n: usize) -> bool
@@ -172,6 +197,7 @@ fn arguments_of<'b, 'a>(found: &'b Option<Form<'a>>) -> &'b [Argument<'a>]
     match found {
         Some(Form::Barrier(list)) => list,
         Some(Form::Apply(_, list)) => list,
+        Some(Form::Turn(_, argument)) => from_ref(argument),
         _ => &[],
     }
 }
@@ -244,11 +270,7 @@ fn has_bad_index(scan: &Scan, found: &Option<Form>) -> bool
 fn is_withheld(name: &[u8]) -> bool
     ensures { result ≡ list_any (bytes_eq name.now) withheld }
 {
-    name == b"ch".as_slice()
-        || name == b"cy".as_slice()
-        || name == b"cswap".as_slice()
-        || name == b"u1".as_slice()
-        || name == b"rz".as_slice()
+    is_rotation(name)
 }
 
 fn is_known<'a>(scan: &Scan<'a>, name: &'a [u8]) -> bool
@@ -280,6 +302,55 @@ fn is_unknown(size: Option<Size>, found: &Option<Form>) -> bool
     }
 }
 
+/// Whether an angle is a whole number of eighths of a full turn.
+fn is_exact(value: AngleValue) -> bool
+    ensures { result ≡ is_exact value }
+{
+    match value {
+        AngleValue::Eighths(_) => true,
+        _ => false,
+    }
+}
+
+/// Whether an entry is a gate of an angle that isn't exact.
+fn is_inexact_entry(line: &Entry) -> bool
+    ensures { result ≡ is_inexact_entry (entry line.now) }
+{
+    match line {
+        Entry::Spin(rotation, _) => !is_exact(rotation.value),
+        _ => false,
+    }
+}
+
+/// Whether an entry of a body is.
+fn any_inexact(body: &[Entry]) -> bool
+    ensures { result ≡ list_any (λ e. is_inexact_entry (entry e)) body.now }
+{
+    body.iter().any(|line| is_inexact_entry(line))
+}
+
+/// Whether a form applies a gate of an angle that isn't exact, or its body does.
+fn has_inexact_angle(found: &Option<Form>) -> bool
+    ensures { result ≡ has_inexact_angle (option_map form found.now) }
+{
+    match found {
+        Some(Form::Turn(rotation, _)) => !is_exact(rotation.value),
+        Some(Form::Define(definition)) => any_inexact(&definition.body),
+        _ => false,
+    }
+}
+
+/// Whether two arguments of a gate name one qubit.
+fn names_twice(scan: &Scan, statement: &Statement) -> bool
+    requires { IsBehind (state scan.now) statement.now }
+    ensures { result ≡ names_twice (state scan.now) (option_map form statement.now.form) }
+{
+    match &statement.form {
+        Some(Form::Apply(_, _)) => has_twins(&statement.qubits),
+        _ => false,
+    }
+}
+
 fn has_too_many_qubits(scan: &Scan, found: &Option<Form>) -> bool
     ensures { result ≡ has_too_many_qubits (state scan.now) (option_map form found.now) }
 {
@@ -303,7 +374,7 @@ fn has_too_many_t(scan: &Scan, statement: &Statement) -> bool
     ensures { result ≡ has_too_many_t (state scan.now) (option_map form statement.now.form) }
 {
     match &statement.form {
-        Some(Form::Apply(_, _)) => t_count_with(scan, statement) > MOST_T_GATES,
+        Some(Form::Apply(_, _) | Form::Turn(_, _)) => t_count_with(scan, statement) > MOST_T_GATES,
         _ => false,
     }
 }
@@ -332,7 +403,7 @@ fn has_too_many_gates(scan: &Scan, statement: &Statement) -> bool
 {
     match &statement.form {
         Some(Form::Define(_)) => statement.body.length > MOST_GATES_DEFINED,
-        Some(Form::Apply(_, _)) => length_with(scan, statement) > MOST_GATES,
+        Some(Form::Apply(_, _) | Form::Turn(_, _)) => length_with(scan, statement) > MOST_GATES,
         _ => false,
     }
 }
@@ -342,7 +413,7 @@ fn is_no_statement(statement: &Statement) -> bool
     ensures { result ≡ is_no_statement (option_map (λ z. z.arity) statement.now.size) (statement_of statement.now) }
 {
     !ends(statement.lexemes)
-        || statement.form.is_none() && !is_outside_profile(statement.lexemes)
+        || statement.form.is_none() && !is_outside_profile(statement)
         || has_other_arity(statement.size, &statement.form)
 }
 
@@ -350,18 +421,19 @@ fn is_no_statement(statement: &Statement) -> bool
 fn is_not_in_profile(statement: &Statement) -> bool
     ensures { result ≡ is_not_in_profile (option_map (λ z. z.arity) statement.now.size) (statement_of statement.now) }
 {
-    ends(statement.lexemes) && is_outside_profile(statement.lexemes)
+    ends(statement.lexemes) && is_outside_profile(statement)
         || includes_other(&statement.form)
         || has_bare(statement.size, &statement.form)
 }
 
 // The reasons in the order of their rows.
-const ORDER: [Refusal; 12] = [
+const ORDER: [Refusal; 13] = [
     Refusal::Statement,
     Refusal::NotInProfile,
     Refusal::TwoNames,
     Refusal::Body,
     Refusal::UnknownGate,
+    Refusal::Angle,
     Refusal::UnknownRegister,
     Refusal::Index,
     Refusal::SameQubit,
@@ -384,9 +456,10 @@ fn applies<'a>(scan: &Scan<'a>, statement: &Statement<'_, 'a>, why: Refusal) -> 
         Refusal::TwoNames => is_taken(scan, &statement.form),
         Refusal::Body => statement.has_bad_body,
         Refusal::UnknownGate => is_unknown(statement.size, &statement.form),
+        Refusal::Angle => has_inexact_angle(&statement.form),
         Refusal::UnknownRegister => has_no_register(scan, &statement.form),
         Refusal::Index => has_bad_index(scan, &statement.form),
-        Refusal::SameQubit => has_twins(&statement.qubits),
+        Refusal::SameQubit => names_twice(scan, statement),
         Refusal::Qubits => has_too_many_qubits(scan, &statement.form),
         Refusal::TooManyT => has_too_many_t(scan, statement),
         Refusal::TooManyGates => has_too_many_gates(scan, statement),

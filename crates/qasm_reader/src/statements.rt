@@ -6,7 +6,7 @@ ghost use Rattle.qasm_reader.specs.Parse.{form_of};
 ghost use Rattle.qasm_reader.specs.View.{lexemes, form, size_of, gate_defined, counted_size, IsBehind, AreKept, state};
 
 use crate::bodies::{NOTHING, body_size, has_bad_body};
-use crate::definitions::size_by_name;
+use crate::definitions::{size_by_name, size_by_value};
 use crate::expand::gate_qubits;
 use crate::forms::{Form, form_of};
 use crate::gates::Size;
@@ -34,6 +34,7 @@ fn size_in<'a>(scan: &Scan<'a>, found: &Option<Form<'a>>) -> Option<Size>
 {
     match found {
         Some(Form::Apply(name, _)) => size_by_name(&scan.definitions, name),
+        Some(Form::Turn(rotation, _)) => size_by_value(rotation.value),
         _ => None,
     }
 }
