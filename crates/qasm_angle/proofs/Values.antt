@@ -157,7 +157,14 @@ found_behind p m z s ss v h =
     ⊎_elim
     (λ (e : v ≡ NotAngle). inl e)
     (λ (f : Found (place_behind p s) m z ss v). inr (record {
-      part = s ∷ f.part; rest = f.rest; last = f.last; more = f.more; whole = ap (λ (l : List Symbol). s ∷ l) f.whole; ends = f.ends; sums = f.sums; value = f.value;
+      part = s ∷ f.part;
+      rest = f.rest;
+      last = f.last;
+      more = f.more;
+      whole = ap (λ (l : List Symbol). s ∷ l) f.whole;
+      ends = f.ends;
+      sums = f.sums;
+      value = f.value;
     }))
     h
 
@@ -174,7 +181,12 @@ found_signed p m z n ss b more =
         ⊎_elim
         (λ (h : value_from (reading Signed n (sum_with z m t)) ss ≡ NotAngle). inl h)
         (λ (f : Found Signed n (sum_with z m t) ss (value_from (reading Signed n (sum_with z m t)) ss)). inr (record {
-          part = []; rest = sign n ∷ ss; last = t; more = record { minus = n; term = f.last } ∷ f.more; whole = refl; ends = e;
+          part = [];
+          rest = sign n ∷ ss;
+          last = t;
+          more = record { minus = n; term = f.last } ∷ f.more;
+          whole = refl;
+          ends = e;
           sums = (f.part, f.rest, ap (λ (l : List Symbol). sign n ∷ l) f.whole, sym (term_is f.part) ∙ f.ends, f.sums);
           value = f.value;
         }))
@@ -242,9 +254,11 @@ signed_angle n ss v h =
     (λ (e : v ≡ NotAngle). inl e)
     (λ (f : Found Signed n zero_sum ss v).
     let x : Summand = record { minus = n; term = f.last } in
-    inr (x ∷ f.more,
+    inr (
+      x ∷ f.more,
       (omega arith, inl (f.part, f.rest, ap (λ (l : List Symbol). sign n ∷ l) f.whole, sym (term_is f.part) ∙ f.ends, f.sums)),
-      f.value ∙ sum_is (x ∷ f.more)))
+      f.value ∙ sum_is (x ∷ f.more),
+    ))
     h
 
 -- no first sign
@@ -254,9 +268,11 @@ plain_angle s ss v h =
     (λ (e : v ≡ NotAngle). inl e)
     (λ (f : Found (place_behind Signed s) false zero_sum ss v).
     let x : Summand = record { minus = false; term = f.last } in
-    inr (x ∷ f.more,
+    inr (
+      x ∷ f.more,
       (omega arith, inr (s ∷ f.part, f.rest, ap (λ (l : List Symbol). Plus ∷ s ∷ l) f.whole, sym (term_is (s ∷ f.part)) ∙ f.ends, f.sums)),
-      f.value ∙ sum_is (x ∷ f.more)))
+      f.value ∙ sum_is (x ∷ f.more),
+    ))
     h
 
 -- what symbols are by the reading is no angle, or they are an angle of that value

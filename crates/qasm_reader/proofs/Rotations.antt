@@ -1,10 +1,10 @@
 -- Gates of an angle: how they are spelled and found.
-use Rattle.std.proofs.Common.{◌≡◌, ℕ, Bool, true, false, cond, ◌&&◌, ◌||◌, ◌==◌, List, [], ◌∷◌, ◌++◌, map, take, drop, Option, Some, None, arith, ap, ◌∙◌, sym, refl, subst, ⊎_elim, append_assoc}
-use Rattle.std.proofs.lemmas.List.{map-append, take-append-drop}
+use Rattle.std.proofs.Common.{◌≡◌, ℕ, ◌+◌, ◌<◌, Bool, true, false, cond, ◌&&◌, ◌||◌, ◌==◌, List, [], ◌∷◌, ◌++◌, length, map, take, drop, get_or, Option, Some, None, arith, ap, ◌∙◌, sym, refl, subst, ⊎_elim, append_assoc}
+use Rattle.std.proofs.lemmas.List.{map-append, map_more, take-append-drop}
 use Rattle.std.specs.Prelude.{codes}
 use Rattle.std.specs.List.{list_any, position_or_len}
 use Rattle.std.specs.Str.{bytes_eq}
-use Rattle.std.proofs.lemmas.Bool.{cases_Bool, and_parts, and_from}
+use Rattle.std.proofs.lemmas.Bool.{cases_Bool, and_parts, and_from, and_right}
 use Rattle.std.proofs.lemmas.Slice.Eq.{bytes_eq-Decides}
 use Rattle.qasm_lex.specs.declared.token.Kind.{Kind}
 use Rattle.qasm_lex.specs.declared.token.Kind.TheVariants.{Ident, Number, Quoted, Semi, Comma, LeftBracket, RightBracket, LeftBrace, RightBrace, LeftParen, RightParen, Other}
@@ -13,11 +13,14 @@ use Rattle.qasm_angle.specs.declared.symbols.Symbol.TheVariants.{Foreign}
 use Rattle.qasm_angle.specs.declared.angles.AngleValue.{AngleValue}
 use Rattle.qasm_angle.specs.declared.angles.AngleValue.TheVariants.{Eighths, Inexact, NotAngle}
 use Rattle.qasm_angle.specs.Symbols.{symbol}
+use Rattle.qasm_angle.specs.Angles.{HasValue}
 use Rattle.qasm_angle.specs.Steps.{value_of}
 use Rattle.qasm_angle.proofs.Values.{has_value, only_value, is_foreign, home}
 use Rattle.qasm_reader.specs.Lexemes.{Lexeme, code_of, is_kind, is_reserved, is_free, is_name}
 use Rattle.qasm_reader.specs.Forms.{Shape, told_bytes, shape, ident, mark, Argument, index_in, arguments, Rotation, rotation, is_rotation, symbols, is_angle, IsRotation}
 use Rattle.qasm_reader.specs.Parse.{both, around_first, in_parens, rotation_with, rotation_of, name_at, opens}
+use Rattle.qasm_reader.specs.declared.lexemes.Lexeme.{Lexeme as CodeLexeme}
+use Rattle.qasm_reader.specs.View.{lexeme, lexemes}
 use Rattle.qasm_reader.proofs.Shapes.{same_kind, to_mark, from_mark, to_name, from_name, not_kind}
 use Rattle.qasm_reader.proofs.Splits.{position_yes, position_no}
 use Rattle.qasm_reader.proofs.Arguments.{chosen, tested, Without, Parts, parts, IsList}
@@ -70,11 +73,6 @@ symbol_told LeftParen b = refl
 symbol_told RightParen b = refl
 symbol_told Other b = refl
 
--- the symbols of lexemes are those of their shapes
-pub symbols_are : (ws : List Lexeme) → symbols (map shape ws) ≡ map (λ w. symbol w.kind w.bytes) ws
-symbols_are [] = refl
-symbols_are (w ∷ ws) = let one = symbol_told w.kind w.bytes in let more = symbols_are ws in λ i. one i ∷ more i
-
 -- a kind that is in no angle
 pub IsNoSymbol : Kind → Type 0
 IsNoSymbol k = (b : List ℕ) → symbol k b ≡ Foreign
@@ -92,13 +90,15 @@ without_kind : (k : Kind) → IsNoSymbol k → (ss : List Shape) → list_any is
 unfolding IsNoSymbol
 without_kind k n [] e = tt
 without_kind k n (s ∷ ss) e =
-    let p = or_false (is_foreign (symbol s.kind s.bytes)) _ e in
-    (⊎_elim
-    (λ (c : (code_of s.kind == code_of k) ≡ true).
-    let foreign : symbol s.kind s.bytes ≡ Foreign = ap (λ (x : Kind). symbol x s.bytes) (same_kind s.kind k c) ∙ n s.bytes in
-    absurd (cc (ap is_foreign foreign, p.0)))
-    (λ (c : (code_of s.kind == code_of k) ≡ false). c)
-    (cases_Bool (code_of s.kind == code_of k)), without_kind k n ss p.1)
+    let p = or_false (is_foreign (symbol s.kind s.bytes)) _ e in (
+      ⊎_elim
+          (λ (c : (code_of s.kind == code_of k) ≡ true).
+          let foreign : symbol s.kind s.bytes ≡ Foreign = ap (λ (x : Kind). symbol x s.bytes) (same_kind s.kind k c) ∙ n s.bytes in
+          absurd (cc (ap is_foreign foreign, p.0)))
+          (λ (c : (code_of s.kind == code_of k) ≡ false). c)
+          (cases_Bool (code_of s.kind == code_of k)),
+      without_kind k n ss p.1,
+    )
   where
     or_false : (x y : Bool) → (x || y) ≡ false → (x ≡ false) × (y ≡ false)
     or_false true y e = absurd (cc)
@@ -194,8 +194,8 @@ is_rotated r w (o ∷ ws) rest e h =
 
     go : (vs front : List Lexeme) → ws ≡ front ++ vs → map shape front ≡ r.angle → map shape vs ≡ mark RightParen ∷ rest
         → (x : List Lexeme × List Lexeme) × (is_kind LeftParen o ≡ true)
-            × (cond (is_kind LeftParen o) (around_first (take (position_or_len (is_kind RightParen) ws) ws) (drop (position_or_len (is_kind RightParen) ws) ws)) None ≡ Some x)
-            × (rotation_of r.name x.0 ≡ Some r) × (map shape x.1 ≡ rest)
+        × (cond (is_kind LeftParen o) (around_first (take (position_or_len (is_kind RightParen) ws) ws) (drop (position_or_len (is_kind RightParen) ws) ws)) None ≡ Some x)
+        × (rotation_of r.name x.0 ≡ Some r) × (map shape x.1 ≡ rest)
     go [] front whole first second = absurd (cc)
     go (y ∷ ys) front whole first second =
         let up = up_to_first RightParen front y ys (subst (Without RightParen) (sym first) (angle_apart RightParen r no_right h)) (from_mark y RightParen (cc)) in
@@ -228,3 +228,28 @@ closed [] ws h = absurd (omega (arith, h.1.0))
 closed (a ∷ args) [] h = refl
 closed (a ∷ []) (w ∷ ws) h = not_kind w Ident LeftParen a.name (cc (h.0)) refl
 closed (a ∷ b ∷ args) (w ∷ ws) h = not_kind w Ident LeftParen a.name (cc (h.0)) refl
+
+-- the symbols of lexemes with one lexeme more
+pub symbols_more : (ws : List CodeLexeme) (i : ℕ) (d : CodeLexeme) → i < length ws
+    → symbols (map shape (lexemes (take (i + 1) ws))) ≡ symbols (map shape (lexemes (take i ws))) ++ symbol (get_or ws i d).kind (get_or ws i d).bytes.now ∷ []
+symbols_more ws i d h =
+    let w = lexeme (get_or ws i d) in
+    ap (λ (l : List Lexeme). symbols (map shape l)) (map_more lexeme ws i d h)
+    ∙ ap symbols (map-append shape (lexemes (take i ws)) (w ∷ []))
+    ∙ map-append (λ (s : Shape). symbol s.kind s.bytes) (map shape (lexemes (take i ws))) (shape w ∷ [])
+    ∙ ap (λ (s : Symbol). symbols (map shape (lexemes (take i ws))) ++ s ∷ []) (symbol_told w.kind w.bytes)
+
+-- a name and tokens that are no angle are no gate of an angle
+pub no_rotation : (name : List ℕ) (ws : List Lexeme) (v : AngleValue) → HasValue (symbols (map shape ws)) v → is_angle v ≡ false → rotation_of name ws ≡ None
+unfolding rotation_of
+no_rotation name ws v h e =
+    ap (λ (t : Bool). cond t (Some (rotation_with name (map shape ws))) None) (and_right (is_rotation name) _ (ap is_angle (only_value (symbols (map shape ws)) v h) ∙ e))
+
+-- a name of one and the tokens of an angle are
+pub some_rotation : (name : List ℕ) (ws : List Lexeme) (v : AngleValue) → is_rotation name ≡ true → HasValue (symbols (map shape ws)) v → is_angle v ≡ true
+    → rotation_of name ws ≡ Some (record { name = name; angle = map shape ws; value = v })
+unfolding rotation_of
+some_rotation name ws v n h e =
+    let value = only_value (symbols (map shape ws)) v h in
+    let same : rotation_with name (map shape ws) ≡ record { name = name; angle = map shape ws; value = v } = λ i. record { name = name; angle = map shape ws; value = value i } in
+    ap (λ (x : Rotation). cond (is_rotation name && is_angle x.value) (Some x) None) same ∙ ap (λ (t : Bool). cond t (Some (record { name = name; angle = map shape ws; value = v })) None) (and_from _ _ n e)

@@ -27,7 +27,9 @@ use Rattle.qasm_reader.specs.State.{Register, State, gate_in, gate_qubits, expan
 use Rattle.qasm_reader.specs.Rows.{Statement, has_bad_body}
 use Rattle.qasm_reader.specs.Limits.{most_qubits, most_gates_defined}
 use denote.Ref.{Bor}
-use Rattle.qasm_reader.specs.Known.{Known, known}
+use Rattle.qasm_reader.specs.declared.definitions.GateSource.{GateSource}
+use Rattle.qasm_reader.specs.declared.definitions.GateSource.TheVariants.{Name, Angle}
+use Rattle.qasm_reader.specs.Known.{Known, known, turned}
 use Rattle.qasm_reader.specs.Lexemes.{Lexeme}
 use Rattle.qasm_reader.specs.Forms.{Argument, shape, Rotation, Entry, Bar, Call, Spin, Form, Include, Qreg, Creg, Barrier, Apply, Turn, Define}
 
@@ -166,6 +168,11 @@ times arity count qubits = if arity == 1 then count * qubits else count
 abbrev pub count_at : (Size → ℕ) → Option Size → ℕ → ℕ
 count_at count None qubits = 0
 count_at count (Some size) qubits = times size.arity (count size) qubits
+
+-- the gate that this is, if it is known
+abbrev pub gate_from : (List ℕ → Option Known) → GateSource → Option Known
+gate_from known (Name name) = known name.now
+gate_from known (Angle value) = turned value
 
 -- the gates that a known gate stands for
 abbrev pub gates_of : Option Known → List Gate

@@ -40,7 +40,7 @@ pub enum ReadFault {
     Memory,
 }
 
-// The fault of a text that is refused for the reason at the place.
+/// The fault of a text that is refused for the reason at the place.
 pub(crate) fn refused(why: Refusal, place: usize) -> ReadFault
     ensures { result ≡ Refused (number_of why) place }
 {

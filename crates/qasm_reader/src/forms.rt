@@ -19,7 +19,7 @@ pub(crate) struct Argument<'a> {
     pub index: Option<&'a [u8]>,
 }
 
-// A gate of an angle: its name, the tokens of the angle, and what the angle is.
+/// A gate of an angle: its name, the tokens of the angle, and what the angle is.
 #[derive(Drop)]
 pub(crate) struct Rotation<'a> {
     pub name: &'a [u8],
@@ -27,7 +27,7 @@ pub(crate) struct Rotation<'a> {
     pub value: AngleValue,
 }
 
-// An entry of a gate's body, on names.
+/// An entry of a gate's body, on names.
 #[derive(Drop)]
 pub(crate) enum Entry<'a> {
     Barrier(Vec<&'a [u8]>),
@@ -35,7 +35,7 @@ pub(crate) enum Entry<'a> {
     Spin(Rotation<'a>, &'a [u8]),
 }
 
-// A gate's name, its names, and its body.
+/// A gate's name, its names, and its body.
 #[derive(Drop)]
 pub(crate) struct Definition<'a> {
     pub name: &'a [u8],
@@ -54,7 +54,7 @@ pub(crate) enum Form<'a> {
     Define(Definition<'a>),
 }
 
-// The lexemes without one of the kind at their end, if it is there.
+/// The lexemes without one of the kind at their end, if it is there.
 #[tactic(auto, unfolding(crate::specs::Parse::without_last))]
 fn without_last<'b, 'a>(ws: &'b [Lexeme<'a>], kind: Kind) -> Option<&'b [Lexeme<'a>]>
     ensures { option_map (λ b. lexemes b.now) result ≡ without_last kind (lexemes ws.now) }
@@ -67,7 +67,7 @@ fn without_last<'b, 'a>(ws: &'b [Lexeme<'a>], kind: Kind) -> Option<&'b [Lexeme<
     }
 }
 
-// The statement without the token that ends it, if it has it.
+/// The statement without the token that ends it, if it has it.
 #[tactic(auto, unfolding(crate::specs::Parse::body_of))]
 fn body_of<'b, 'a>(statement: &'b [Lexeme<'a>]) -> Option<&'b [Lexeme<'a>]>
     ensures { option_map (λ b. lexemes b.now) result ≡ body_of (lexemes statement.now) }
@@ -78,7 +78,7 @@ fn body_of<'b, 'a>(statement: &'b [Lexeme<'a>]) -> Option<&'b [Lexeme<'a>]>
     }
 }
 
-// `name [ digits ]`
+/// `name [ digits ]`
 #[tactic(auto, unfolding(crate::specs::Parse::indexed_at))]
 fn indexed_at<'a>(ws: &[Lexeme<'a>]) -> Option<(&'a [u8], &'a [u8])>
     ensures { option_map (λ x. (x.0.now, x.1.now)) result ≡ indexed_at (lexemes ws.now) }
@@ -99,7 +99,7 @@ fn indexed_at<'a>(ws: &[Lexeme<'a>]) -> Option<(&'a [u8], &'a [u8])>
     }
 }
 
-// An argument.
+/// An argument.
 #[tactic(auto, unfolding(crate::specs::Parse::argument_at))]
 fn argument_at<'a>(ws: &[Lexeme<'a>]) -> Option<Argument<'a>>
     ensures { option_map argument result ≡ argument_at (lexemes ws.now) }
@@ -126,7 +126,7 @@ fn argument_at<'a>(ws: &[Lexeme<'a>]) -> Option<Argument<'a>>
     }
 }
 
-// Arguments between commas.
+/// Arguments between commas.
 fn arguments_at<'a>(
     alloc: Global,
     ws: &[Lexeme<'a>],
@@ -149,7 +149,7 @@ fn arguments_at<'a>(
     Ok(Some(found))
 }
 
-// The names of arguments, if none has an index.
+/// The names of arguments, if none has an index.
 fn names_of<'a>(alloc: Global, args: &[Argument<'a>]) -> Result<Option<Vec<&'a [u8]>>, AllocError>
     ensures { IfOk result (λ o. option_map (λ v. name_list v.items) o ≡ names_of (arguments args.now)) }
 {
@@ -163,7 +163,7 @@ fn names_of<'a>(alloc: Global, args: &[Argument<'a>]) -> Result<Option<Vec<&'a [
     Ok(Some(names))
 }
 
-// Names between commas.
+/// Names between commas.
 #[tactic(auto, unfolding(crate::specs::Parse::names_at))]
 fn names_at<'a>(alloc: Global, ws: &[Lexeme<'a>]) -> Result<Option<Vec<&'a [u8]>>, AllocError>
     ensures { IfOk result (λ o. option_map (λ v. name_list v.items) o ≡ names_at (lexemes ws.now)) }
@@ -218,6 +218,16 @@ fn value_of(ws: &[Lexeme]) -> AngleValue
     reading.value()
 }
 
+/// Whether tokens of this value are an angle.
+fn is_angle(value: AngleValue) -> bool
+    ensures { result ≡ is_angle value }
+{
+    match value {
+        AngleValue::NotAngle => false,
+        _ => true,
+    }
+}
+
 /// The same tokens, to be kept.
 fn copy_of<'a>(alloc: Global, ws: &[Lexeme<'a>]) -> Result<Vec<Lexeme<'a>>, AllocError>
     ensures { IfOk result (λ v. v.items ≡ ws.now) }
@@ -242,7 +252,7 @@ fn rotation_of<'a>(
         return Ok(None);
     }
     let value = value_of(ws);
-    if matches!(value, AngleValue::NotAngle) {
+    if !is_angle(value) {
         return Ok(None);
     }
     let angle = copy_of(alloc, ws)?;
@@ -288,11 +298,11 @@ fn spin<'a>(found: Option<Rotation<'a>>, name: Option<&'a [u8]>) -> Option<Entry
 }
 
 /// The form of a gate of an angle on an argument, if both are there.
-fn turn<'a>(found: Option<Rotation<'a>>, argument: Option<Argument<'a>>) -> Option<Form<'a>>
-    ensures { option_map form result ≡ both Turn (option_map rotation found.entry) (option_map argument argument.entry) }
+fn turn<'a>(found: Option<Rotation<'a>>, target: Option<Argument<'a>>) -> Option<Form<'a>>
+    ensures { option_map form result ≡ both Turn (option_map rotation found.entry) (option_map argument target.entry) }
 {
-    match (found, argument) {
-        (Some(found), Some(argument)) => Some(Form::Turn(found, argument)),
+    match (found, target) {
+        (Some(found), Some(target)) => Some(Form::Turn(found, target)),
         _ => None,
     }
 }
@@ -357,7 +367,7 @@ fn gate_at<'a>(
     Ok(arguments_at(alloc, ws)?.map(|list| Form::Apply(name, list)))
 }
 
-// An entry of a body, without its Semi.
+/// An entry of a body, without its Semi.
 #[tactic(auto, unfolding(crate::specs::Parse::entry_at))]
 fn entry_at<'a>(alloc: Global, ws: &[Lexeme<'a>]) -> Result<Option<Entry<'a>>, AllocError>
     ensures { IfOk result (λ o. option_map entry o ≡ entry_at (lexemes ws.now)) }
@@ -374,7 +384,7 @@ fn entry_at<'a>(alloc: Global, ws: &[Lexeme<'a>]) -> Result<Option<Entry<'a>>, A
     Ok(None)
 }
 
-// The entries of a body.
+/// The entries of a body.
 fn entries_at<'a>(alloc: Global, ws: &[Lexeme<'a>]) -> Result<Option<Vec<Entry<'a>>>, AllocError>
     ensures { IfOk result (λ o. option_map (λ v. entries v.items) o ≡ entries_at (lexemes ws.now)) }
 {
@@ -394,7 +404,7 @@ fn entries_at<'a>(alloc: Global, ws: &[Lexeme<'a>]) -> Result<Option<Vec<Entry<'
     Ok(Some(found))
 }
 
-// The entries behind a brace, if it is there.
+/// The entries behind a brace, if it is there.
 fn entries_behind<'a>(
     alloc: Global,
     ws: &[Lexeme<'a>],
@@ -407,6 +417,7 @@ fn entries_behind<'a>(
     }
 }
 
+/// The form of a definition, if its names and its body are there.
 fn defining<'a>(
     name: &'a [u8],
     names: Option<Vec<&'a [u8]>>,
@@ -420,7 +431,7 @@ fn defining<'a>(
     }
 }
 
-// The definition behind its word.
+/// The definition behind its word.
 #[tactic(auto, unfolding(crate::specs::Parse::definition_at))]
 fn definition_at<'a>(alloc: Global, ws: &[Lexeme<'a>]) -> Result<Option<Form<'a>>, AllocError>
     ensures { IfOk result (λ o. option_map form o ≡ definition_at (lexemes ws.now)) }
@@ -437,6 +448,7 @@ fn definition_at<'a>(alloc: Global, ws: &[Lexeme<'a>]) -> Result<Option<Form<'a>
     Ok(defining(first.bytes, names, body))
 }
 
+/// The form of an include behind its word.
 #[tactic(auto, unfolding(crate::specs::Parse::include_at))]
 fn include_at<'a>(ws: &[Lexeme<'a>]) -> Option<Form<'a>>
     ensures { option_map form result ≡ include_at (lexemes ws.now) }
@@ -453,7 +465,7 @@ fn include_at<'a>(ws: &[Lexeme<'a>]) -> Option<Form<'a>>
     }
 }
 
-// The form of a statement without the token that ends it.
+/// The form of a statement without the token that ends it.
 #[tactic(auto, unfolding(crate::specs::Parse::form_behind))]
 fn form_behind<'a>(
     alloc: Global,
@@ -483,7 +495,7 @@ fn form_behind<'a>(
     Ok(None)
 }
 
-// The form of a statement, if it has one.
+/// The form of a statement, if it has one.
 #[tactic(auto, unfolding(crate::specs::Parse::form_of, crate::specs::Parse::form_in))]
 pub(crate) fn form_of<'a>(
     alloc: Global,

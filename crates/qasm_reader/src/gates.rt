@@ -6,14 +6,14 @@ ghost use Rattle.qasm_reader.specs.View.{known_gate};
 use qasm_angle::AngleValue;
 use tc_circuit::Gate;
 
-// How many arguments a gate takes, and the gates that it stands for, whose qubits are the numbers of its arguments.
+/// How many arguments a gate takes, and the gates that it stands for, whose qubits are the numbers of its arguments.
 #[derive(Clone, Copy)]
 pub(crate) struct Known<'a> {
     pub arity: usize,
     pub gates: &'a [Gate],
 }
 
-// How many arguments a gate takes, how many gates it stands for, and how many of them are T gates.
+/// How many arguments a gate takes, how many gates it stands for, and how many of them are T gates.
 #[derive(Clone, Copy)]
 pub(crate) struct Size {
     pub arity: usize,
@@ -90,13 +90,14 @@ const CSWAP: [Gate; 17] = [
     Gate::Cx(2, 1),
 ];
 
+/// A gate of so many arguments.
 fn on(arity: usize, gates: &[Gate]) -> Known<'_>
     ensures { known_gate result ≡ record { arity = arity; gates = gates.now } }
 {
     Known { arity, gates }
 }
 
-// The gate of the name, if it takes more than one argument.
+/// The gate of the name, if it takes more than one argument.
 fn wide_by_name(name: &[u8]) -> Option<Known<'static>>
     ensures { option_map known_gate result ≡ look_up (drop 9 table) name.now }
 {
@@ -124,7 +125,7 @@ fn wide_by_name(name: &[u8]) -> Option<Known<'static>>
     None
 }
 
-// The gate of the name.
+/// The gate of the name.
 #[tactic(auto, unfolding(crate::specs::Known::known))]
 pub(crate) fn known_by_name(name: &[u8]) -> Option<Known<'static>>
     ensures { option_map known_gate result ≡ known name.now }

@@ -1,6 +1,6 @@
 // The reasons for which a text is refused.
 
-// Why a text is refused; the number of a reason is its discriminant.
+/// Why a text is refused; the number of a reason is its discriminant.
 #[derive(Clone, Copy)]
 pub(crate) enum Refusal {
     // The text doesn't begin with the header.
@@ -39,7 +39,7 @@ impl Refusal {
     ghost use Rattle.std.specs.Prelude.{◌≡◌};
     ghost use Rattle.qasm_reader.specs.Refusals.{number_of};
 
-    // The number of the reason, 1 to 12, 17, 18 or 20.
+    /// The number of the reason, 1 to 12, 17, 18 or 20.
     pub(crate) fn number(self) -> u8
         ensures { result ≡ number_of self }
     {

@@ -461,12 +461,7 @@ const TURNS: [(usize, &[u8], u8, &[Gate]); 40] = [
     (1, b"u1(9*pi/4) q[0];", 1, &[T(0)]),
     // Whole registers, in rising order, and the places of qubits.
     (3, b"u1(pi/4) q;", 3, &[T(0), T(1), T(2)]),
-    (
-        2,
-        b"rz(3*pi/4) q;",
-        2,
-        &[S(0), T(0), S(1), T(1)],
-    ),
+    (2, b"rz(3*pi/4) q;", 2, &[S(0), T(0), S(1), T(1)]),
     (3, b"rz(pi/4) q[2]; rz(pi/2) q[1];", 3, &[T(2), S(1)]),
     (1, b"creg u1[1]; u1(pi/4) q[0];", 1, &[T(0)]),
     (0, b"OPENQASM 2.0; qreg u1[1]; u1(pi/4) u1[0];", 1, &[T(0)]),

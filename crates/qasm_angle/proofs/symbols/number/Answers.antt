@@ -19,6 +19,6 @@ loop-digit-preserved c =
     let below = below_more c.args.digits.now c.loop-digit.digit-index c.loop-digit.n c.requires.digits c.loop-digit-test.true c.loop-digit.invariant.1 in
     let same : c.loop-digit.n * 10 + c.from.result ≡ c.loop-digit.n * 10 + (get_or c.args.digits.now c.loop-digit.digit-index 0 - 48) = omega (arith, c.from.ensures) in (
       ap (λ (n : ℕ). n * 10 + c.from.result) c.loop-digit.invariant.0 ∙ ap (λ (d : ℕ). number (take c.loop-digit.digit-index c.args.digits.now) * 10 + d) c.from.ensures
-      ∙ sym (fold_more (λ (n b : ℕ). n * 10 + (b - 48)) 0 c.args.digits.now c.loop-digit.digit-index 0 c.loop-digit-test.true),
+          ∙ sym (fold_more (λ (n b : ℕ). n * 10 + (b - 48)) 0 c.args.digits.now c.loop-digit.digit-index 0 c.loop-digit-test.true),
       omega (arith, below, same),
     )
