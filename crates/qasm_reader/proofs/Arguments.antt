@@ -61,7 +61,7 @@ is_indexed (n ∷ o ∷ d ∷ c ∷ []) name digits e f g =
 is_indexed (n ∷ o ∷ d ∷ c ∷ w ∷ ws) name digits e f g = absurd (cc)
 
 -- an argument
-argument_is : (ws : List Lexeme) (a : Argument) → argument_at ws ≡ Some a → (map shape ws ≡ argument a) × IsArgument a
+pub argument_is : (ws : List Lexeme) (a : Argument) → argument_at ws ≡ Some a → (map shape ws ≡ argument a) × IsArgument a
 unfolding argument_at
 argument_is [] a e = absurd (cc)
 argument_is (n ∷ []) a e =
@@ -89,7 +89,7 @@ is_indexed_argument (n ∷ []) name digits e f g = absurd (cc)
 is_indexed_argument (n ∷ o ∷ ws) name digits e f g = ap (option_map indexed_argument) (is_indexed (n ∷ o ∷ ws) name digits e f g)
 
 -- an argument that is spelled is found
-is_argument : (ws : List Lexeme) (a : Argument) → map shape ws ≡ argument a → IsArgument a → argument_at ws ≡ Some a
+pub is_argument : (ws : List Lexeme) (a : Argument) → map shape ws ≡ argument a → IsArgument a → argument_at ws ≡ Some a
 is_argument ws a e f = go a.index ws e f.0 f.1
   where
     go : (o : Option (List ℕ)) (vs : List Lexeme) → map shape vs ≡ ident a.name ∷ index_in o → is_free a.name ≡ true → IfSome o (λ digits. IsTrue (is_whole digits))

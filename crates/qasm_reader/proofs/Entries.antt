@@ -5,12 +5,13 @@ use Rattle.std.specs.Prelude.{codes, option_map, option_and_then}
 use Rattle.std.specs.List.{AllByRecursion, slice_split, position_or_len, flat_map}
 use Rattle.std.proofs.lemmas.Bool.{cases_Bool}
 use Rattle.qasm_lex.specs.declared.token.Kind.{Kind}
-use Rattle.qasm_lex.specs.declared.token.Kind.TheVariants.{Semi, Comma, LeftBrace}
+use Rattle.qasm_lex.specs.declared.token.Kind.TheVariants.{Semi, Comma, LeftBrace, RightParen}
 use Rattle.qasm_reader.specs.Lexemes.{Lexeme, code_of, is_kind, is_ident, is_free, is_name}
-use Rattle.qasm_reader.specs.Forms.{Shape, shape, ident, mark, Argument, arguments, bare, names, Entry, Bar, Call, entry, Form, Define, AreArguments, AreNames, IsEntry}
-use Rattle.qasm_reader.specs.Parse.{consed, all_some, arguments_at, bare_name, names_of, names_at, entry_at, entries_in, entries_at, entries_behind, both, definition_at}
+use Rattle.qasm_reader.specs.Forms.{Shape, shape, ident, mark, Argument, arguments, bare, names, Rotation, rotation, IsRotation, Entry, Bar, Call, Spin, entry, Form, Define, AreArguments, AreNames, IsEntry}
+use Rattle.qasm_reader.specs.Parse.{consed, all_some, arguments_at, bare_name, names_of, names_at, in_parens, rotation_of, name_at, spin_in, call_at, entry_at, entries_in, entries_at, entries_behind, both, definition_at}
 use Rattle.qasm_reader.proofs.Shapes.{to_mark, from_mark, to_ident, from_ident, to_name, from_name, not_ident}
-use Rattle.qasm_reader.proofs.Splits.{position_yes, position_no, FirstPart, split_of}
+use Rattle.qasm_reader.proofs.Splits.{FirstPart, split_of}
+use Rattle.qasm_reader.proofs.Rotations.{up_to_first, cut_at, both_are, first_passes, rotation_is, is_rotated, name_is, is_name_at, closed, free_rotation, angle_apart, no_semi}
 use Rattle.qasm_reader.proofs.Arguments.{mapped, tested, consed_is, and_then_is, chosen, IsJoin, join_split, IsList, arguments_are, are_arguments, Without, without_append, IsApart, arguments_apart, split_first, Parts, parts, free_is}
 
 -- arguments without an index are names
@@ -56,11 +57,34 @@ spelled_names ws list e h = ap (option_and_then names_of) (are_arguments (map ba
 abbrev entry_front : Entry → List Shape
 entry_front (Bar args) = ident (codes "barrier") ∷ names args
 entry_front (Call name args) = ident name ∷ names args
+entry_front (Spin r name) = rotation r ++ ident name ∷ []
 
 -- an entry is its front and a `;`
 entry_whole : (x : Entry) → entry x ≡ entry_front x ++ mark Semi ∷ []
 entry_whole (Bar args) = refl
 entry_whole (Call name args) = refl
+entry_whole (Spin r name) = refl
+
+-- an entry that is found behind a name is spelled
+call_is : (w : Lexeme) (ws : List Lexeme) (x : Entry) → is_name w ≡ true → call_at w.bytes ws ≡ Some x → (map shape (w ∷ ws) ≡ entry_front x) × IsEntry x
+unfolding call_at
+call_is w ws x c e =
+    ⊎_elim
+    (λ (o, f). spun (in_parens ws) refl f)
+    (λ (o, f).
+    let m = mapped (Call w.bytes) _ x f in
+    let i = found_names ws m.0 m.1 in
+    let first = to_name w c in
+    subst (λ (y : Entry). (map shape (w ∷ ws) ≡ entry_front y) × IsEntry y) m.2 (cc (first.0, i.0), (first.1, i.1)))
+    (tested _ _ _ _ e)
+  where
+    spun : (o : Option (List Lexeme × List Lexeme)) → in_parens ws ≡ o → spin_in w.bytes o ≡ Some x → (map shape (w ∷ ws) ≡ entry_front x) × IsEntry x
+    spun None p f = absurd (cc)
+    spun (Some y) p f =
+        let b = both_are Spin (rotation_of w.bytes y.0) (name_at y.1) x f in
+        let r = rotation_is w ws y b.0 c p b.2 in
+        let n = name_is y.1 b.1 b.3 in
+        subst (λ (z : Entry). (map shape (w ∷ ws) ≡ entry_front z) × IsEntry z) b.4 (r.spelled ∙ ap (λ (l : List Shape). rotation b.0 ++ l) n.0, (r.is, n.1))
 
 -- an entry that is found is spelled
 entry_is : (ws : List Lexeme) (x : Entry) → entry_at ws ≡ Some x → (map shape ws ≡ entry_front x) × IsEntry x
@@ -74,38 +98,60 @@ entry_is (w ∷ ws) x e =
     let first = to_ident w (codes "barrier") c in
     subst (λ (y : Entry). (map shape (w ∷ ws) ≡ entry_front y) × IsEntry y) m.2 (cc (first, i.0), i.1))
     (λ (c, f). ⊎_elim
-    (λ (d, g).
-    let m = mapped (Call w.bytes) _ x g in
-    let i = found_names ws m.0 m.1 in
-    let first = to_name w d in
-    subst (λ (y : Entry). (map shape (w ∷ ws) ≡ entry_front y) × IsEntry y) m.2 (cc (first.0, i.0), (first.1, i.1)))
+    (λ (d, g). call_is w ws x d g)
     (λ (d, g). absurd (cc))
     (tested _ _ _ _ f))
     (tested _ _ _ _ e)
+
+-- an entry that is spelled is found behind its name
+is_call : (name : List ℕ) (args : List (List ℕ)) (ws : List Lexeme) → map shape ws ≡ names args → AreNames args → call_at name ws ≡ Some (Call name args)
+unfolding call_at
+is_call name args ws e h =
+    let shut = closed (map bare args) ws (e, h) in
+    let i = spelled_names ws args e h in
+    rw (shut, i) refl
+
+is_spin : (r : Rotation) (name : List ℕ) (w : Lexeme) (ws : List Lexeme) → map shape (w ∷ ws) ≡ rotation r ++ ident name ∷ [] → IsRotation r → is_free name ≡ true → call_at r.name ws ≡ Some (Spin r name)
+unfolding call_at
+is_spin r name w ws e h f =
+    let x = is_rotated r w ws (ident name ∷ []) e h in
+    let n = is_name_at x.0.1 name x.4 f in
+    ap (λ (t : Bool). cond t (spin_in r.name (in_parens ws)) (option_map (Call r.name) (names_at ws))) x.1
+    ∙ ap (spin_in r.name) x.2 ∙ ap (λ (o : Option Rotation). both Spin o (name_at x.0.1)) x.3 ∙ ap (both Spin (Some r)) n
 
 -- an entry that is spelled is found
 is_entry : (x : Entry) (ws : List Lexeme) → map shape ws ≡ entry_front x → IsEntry x → entry_at ws ≡ Some x
 unfolding entry_at
 is_entry (Bar args) [] e h = absurd (cc)
 is_entry (Call name args) [] e h = absurd (cc)
+is_entry (Spin r name) [] e h = absurd (cc)
 is_entry (Bar args) (w ∷ ws) e h =
     let s : shape w ≡ ident (codes "barrier") = cc in
     let i = spelled_names ws args (cc) h in
     rw (from_ident w (codes "barrier") s, i) refl
 is_entry (Call name args) (w ∷ ws) e h =
     let s : shape w ≡ ident name = cc in
-    let i = spelled_names ws args (cc) h.1 in
     let n = free_is name h.0 in
     let t = from_name w name s h.0 in
-    rw (not_ident w name (codes "barrier") s n.1.1.1.1.0, t.0, i, t.1) refl
+    let i = ap (λ (b : List ℕ). call_at b ws) t.1 ∙ is_call name args ws (cc) h.1 in
+    rw (not_ident w name (codes "barrier") s n.1.1.1.1.0, t.0, i) refl
+is_entry (Spin r name) (w ∷ ws) e h =
+    let s : shape w ≡ ident r.name = cc in
+    let free = free_rotation r.name h.0.name in
+    let n = free_is r.name free in
+    let t = from_name w r.name s free in
+    let i = ap (λ (b : List ℕ). call_at b ws) t.1 ∙ is_spin r name w ws e h.0 h.1 in
+    rw (not_ident w r.name (codes "barrier") s n.1.1.1.1.0, t.0, i) refl
 
 -- an entry has a `;` at its end alone
 semi_apart : IsApart Semi
 semi_apart = record { ident = refl; number = refl; comma = refl; left = refl; right = refl }
 
-front_apart : (x : Entry) → Without Semi (entry_front x)
-front_apart (Bar args) = (refl, arguments_apart Semi (map bare args) semi_apart)
-front_apart (Call name args) = (refl, arguments_apart Semi (map bare args) semi_apart)
+front_apart : (x : Entry) → IsEntry x → Without Semi (entry_front x)
+front_apart (Bar args) h = (refl, arguments_apart Semi (map bare args) semi_apart)
+front_apart (Call name args) h = (refl, arguments_apart Semi (map bare args) semi_apart)
+front_apart (Spin r name) h =
+    without_append Semi (rotation r) (ident name ∷ []) (refl, (refl, without_append Semi r.angle (mark RightParen ∷ []) (angle_apart Semi r no_semi h.0) (refl, tt))) (refl, tt)
 
 -- the lexemes are these entries, spelled
 abbrev pub AreEntries : List Lexeme → List Entry → Type 0
@@ -166,46 +212,14 @@ are_entries (x ∷ body) ws h =
     go [] front whole first second more = absurd (cc)
     go (y ∷ ys) front whole first second more =
         let semi = from_mark y Semi (cc) in
-        let split = split_first Semi front y ys (subst (Without Semi) (sym first) (front_apart x)) semi in
+        let split = split_first Semi front y ys (subst (Without Semi) (sym first) (front_apart x h.1.0)) semi in
         ap (λ (l : List Lexeme). entries_in (slice_split (is_kind Semi) l)) whole
         ∙ ap entries_in split
         ∙ next_entry x front (slice_split (is_kind Semi) ys) ys body (join_split Semi ys) (is_entry x front first h.1.0) (more ys (cc))
 
--- up to the first of a kind, and what stands behind
-up_to_first : (k : Kind) (front : List Lexeme) (y : Lexeme) (ys : List Lexeme) → Without k (map shape front) → is_kind k y ≡ true
-    → (take (position_or_len (is_kind k) (front ++ y ∷ ys)) (front ++ y ∷ ys) ≡ front) × (drop (position_or_len (is_kind k) (front ++ y ∷ ys)) (front ++ y ∷ ys) ≡ y ∷ ys)
-up_to_first k [] y ys n c =
-    let none = position_yes (is_kind k) y ys c in
-    (ap (λ (n : ℕ). take n (y ∷ ys)) none, ap (λ (n : ℕ). drop n (y ∷ ys)) none)
-up_to_first k (x ∷ xs) y ys n c =
-    let one = position_no (is_kind k) x (xs ++ y ∷ ys) n.0 in
-    let more = up_to_first k xs y ys n.1 c in
-    (ap (λ (n : ℕ). take n (x ∷ xs ++ y ∷ ys)) one ∙ ap (λ (l : List Lexeme). x ∷ l) more.0, ap (λ (n : ℕ). drop n (x ∷ xs ++ y ∷ ys)) one ∙ more.1)
-
--- what stands before and behind a place is the whole
-pub cut_at : {A : Type 0} (n : ℕ) (xs : List A) → xs ≡ take n xs ++ drop n xs
-cut_at n xs = sym (take-append-drop n xs)
-
--- two values that were found
-both_are : {A B C : Type 0} (f : A → B → C) (x : Option A) (y : Option B) (z : C) → both f x y ≡ Some z → (a : A) × (b : B) × (x ≡ Some a) × (y ≡ Some b) × (f a b ≡ z)
-both_are f None y z e = absurd (cc)
-both_are f (Some x) None z e = absurd (cc)
-both_are f (Some x) (Some y) z e = (x, y, refl, refl, cc)
-
 -- the tokens of a definition between its word and its end
 abbrev pub Defines : List Lexeme → List ℕ → List (List ℕ) → List Entry → Type 0
 Defines ws name list body = (map shape ws ≡ ident name ∷ (names list ++ mark LeftBrace ∷ flat_map entry body)) × (is_free name ≡ true) × AreNames list × AllByRecursion IsEntry body
-
--- behind the front that fails, the first to pass
-first_passes : (xs : List Lexeme) (y : Lexeme) (ys : List Lexeme) → drop (position_or_len (is_kind LeftBrace) xs) xs ≡ y ∷ ys → is_kind LeftBrace y ≡ true
-first_passes [] y ys d = absurd (cc)
-first_passes (x ∷ xs) y ys d =
-    ⊎_elim
-    (λ (c : is_kind LeftBrace x ≡ true).
-    let same : x ∷ xs ≡ y ∷ ys = sym (ap (λ (k : ℕ). drop k (x ∷ xs)) (position_yes (is_kind LeftBrace) x xs c)) ∙ d in
-    let one : x ≡ y = cc in subst (λ (z : Lexeme). is_kind LeftBrace z ≡ true) one c)
-    (λ (c : is_kind LeftBrace x ≡ false). first_passes xs y ys (sym (ap (λ (k : ℕ). drop k (x ∷ xs)) (position_no (is_kind LeftBrace) x xs c)) ∙ d))
-    (cases_Bool (is_kind LeftBrace x))
 
 -- a definition that is found is spelled
 pub definition_is : (ws : List Lexeme) (f : Form) → definition_at ws ≡ Some f → (name : List ℕ) × (list : List (List ℕ)) × (body : List Entry) × (f ≡ Define name list body) × Defines ws name list body
@@ -230,7 +244,7 @@ definition_is (n ∷ ws) f e =
     behind [] d list body g is l name = absurd (cc (d, g))
     behind (y ∷ ys) d list body g is l name =
         let more = entries_are ys body (sym (ap entries_behind d) ∙ g) in
-        let brace = to_mark y LeftBrace refl (first_passes ws y ys d) in
+        let brace = to_mark y LeftBrace refl (first_passes LeftBrace ws y ys d) in
         let whole : map shape ws ≡ names list ++ mark LeftBrace ∷ flat_map entry body =
         ap (map shape) (cut_at size ws ∙ ap (λ (r : List Lexeme). take size ws ++ r) d) ∙ map-append shape (take size ws) (y ∷ ys) ∙ cc (l.0, brace, more.0) in
         (n.bytes, list, body, sym is, (cc (name.0, whole), name.1, l.1, more.1))

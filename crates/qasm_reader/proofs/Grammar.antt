@@ -6,11 +6,12 @@ use Rattle.std.specs.List.{flat_map}
 use Rattle.std.specs.Str.{bytes_eq}
 use Rattle.qasm_lex.specs.declared.token.Kind.{Kind}
 use Rattle.qasm_lex.specs.declared.token.Kind.TheVariants.{Semi, LeftBrace, RightBrace}
-use Rattle.qasm_reader.specs.Lexemes.{Lexeme, is_kind, is_ident, is_free, is_whole, closer}
-use Rattle.qasm_reader.specs.Forms.{Shape, told_bytes, shape, ident, quoted, mark, in_brackets, arguments, names, entry, Form, Include, Qreg, Creg, Barrier, Apply, Define, spelled, HasParts, IsForm, HasForm}
-use Rattle.qasm_reader.specs.Parse.{without_last, body_of, include_at, definition_at, form_behind, form_in, form_of}
+use Rattle.qasm_reader.specs.Lexemes.{Lexeme, is_kind, is_ident, is_name, is_free, is_whole, closer}
+use Rattle.qasm_reader.specs.Forms.{Shape, told_bytes, shape, ident, quoted, mark, in_brackets, Argument, argument, arguments, names, Rotation, rotation, IsRotation, IsArgument, AreArguments, entry, Form, Include, Qreg, Creg, Barrier, Apply, Turn, Define, spelled, HasParts, IsForm, HasForm}
+use Rattle.qasm_reader.specs.Parse.{without_last, body_of, both, argument_at, arguments_at, in_parens, rotation_of, turn_in, gate_at, include_at, definition_at, form_behind, form_in, form_of}
 use Rattle.qasm_reader.proofs.Shapes.{to_mark, from_mark, to_quoted, from_quoted, to_ident, from_ident, to_name, from_name, not_ident}
-use Rattle.qasm_reader.proofs.Arguments.{chosen, mapped, tested, and_then_is, indexed_is, is_indexed, arguments_are, are_arguments, Parts, parts, free_is}
+use Rattle.qasm_reader.proofs.Arguments.{chosen, mapped, tested, and_then_is, indexed_is, is_indexed, argument_is, is_argument, arguments_are, are_arguments, Parts, parts, free_is}
+use Rattle.qasm_reader.proofs.Rotations.{both_are, rotation_is, is_rotated, closed, free_rotation}
 use Rattle.qasm_reader.proofs.Entries.{definition_is, is_definition}
 
 -- a lexeme of the kind at the end
@@ -44,6 +45,7 @@ front_of (Qreg name size) = ident (codes "qreg") ∷ ident name ∷ in_brackets 
 front_of (Creg name size) = ident (codes "creg") ∷ ident name ∷ in_brackets size
 front_of (Barrier args) = ident (codes "barrier") ∷ arguments args
 front_of (Apply name args) = ident name ∷ arguments args
+front_of (Turn r a) = rotation r ++ argument a
 front_of (Define name list body) = ident (codes "gate") ∷ ident name ∷ (names list ++ mark LeftBrace ∷ flat_map entry body)
 
 -- and the kind of that one
@@ -53,6 +55,7 @@ end_of (Qreg name size) = Semi
 end_of (Creg name size) = Semi
 end_of (Barrier args) = Semi
 end_of (Apply name args) = Semi
+end_of (Turn r a) = Semi
 end_of (Define name list body) = RightBrace
 
 -- a form is its front and its end
@@ -62,6 +65,7 @@ whole_is (Qreg name size) = refl
 whole_is (Creg name size) = refl
 whole_is (Barrier args) = refl
 whole_is (Apply name args) = refl
+whole_is (Turn r a) = refl
 whole_is (Define name list body) = refl
 
 -- a mark tells no bytes
@@ -71,6 +75,7 @@ end_told (Qreg name size) bytes = refl
 end_told (Creg name size) bytes = refl
 end_told (Barrier args) bytes = refl
 end_told (Apply name args) bytes = refl
+end_told (Turn r a) bytes = refl
 end_told (Define name list body) bytes = refl
 
 -- a word that isn't `gate` begins a statement that ends with `;`
@@ -84,6 +89,7 @@ closer_is (Qreg name size) w more rest e h = other_closer w (codes "qreg") (cc) 
 closer_is (Creg name size) w more rest e h = other_closer w (codes "creg") (cc) refl
 closer_is (Barrier args) w more rest e h = other_closer w (codes "barrier") (cc) refl
 closer_is (Apply name args) w more rest e h = let n = free_is name h.0 in other_closer w name (cc) n.1.1.1.1.1.1.1.1.1.0
+closer_is (Turn r a) w more rest e h = let n = free_is r.name (free_rotation r.name h.0.name) in other_closer w r.name (cc) n.1.1.1.1.1.1.1.1.1.0
 closer_is (Define name list body) w more rest e h = ap (λ (t : Bool). cond t RightBrace Semi) (from_ident w (codes "gate") (cc))
 
 -- the tokens of a form without the one that ends it
@@ -107,6 +113,27 @@ define_is w ws f c e =
     let d = definition_is ws f e in
     let word = to_ident w (codes "gate") c in
     subst (FormBody (w ∷ ws)) (sym d.3) (cc (word, d.4.0), (d.4.1, d.4.2, d.4.3))
+
+-- a form that is found behind a name is spelled
+gate_is : (w : Lexeme) (ws : List Lexeme) (f : Form) → is_name w ≡ true → gate_at w.bytes ws ≡ Some f → FormBody (w ∷ ws) f
+unfolding gate_at
+gate_is w ws f c e =
+    ⊎_elim
+    (λ (o, g). turned (in_parens ws) refl g)
+    (λ (o, g).
+    let m = mapped (Apply w.bytes) _ f g in
+    let i = arguments_are ws m.0 m.1 in
+    let lexeme = to_name w c in
+    subst (FormBody (w ∷ ws)) m.2 (cc (lexeme.0, i.0), (lexeme.1, i.1)))
+    (tested _ _ _ _ e)
+  where
+    turned : (o : Option (List Lexeme × List Lexeme)) → in_parens ws ≡ o → turn_in w.bytes o ≡ Some f → FormBody (w ∷ ws) f
+    turned None p g = absurd (cc)
+    turned (Some x) p g =
+        let b = both_are Turn (rotation_of w.bytes x.0) (argument_at x.1) f g in
+        let r = rotation_is w ws x b.0 c p b.2 in
+        let a = argument_is x.1 b.1 b.3 in
+        subst (FormBody (w ∷ ws)) b.4 (r.spelled ∙ ap (λ (l : List Shape). rotation b.0 ++ l) a.0, (r.is, a.1))
 
 -- a form that is found behind the first lexeme is spelled
 behind_is : (w : Lexeme) (ws : List Lexeme) (f : Form) → form_behind w ws ≡ Some f → FormBody (w ∷ ws) f
@@ -135,11 +162,7 @@ behind_is w ws f e =
     let lexeme = to_ident w (codes "barrier") c in
     subst (FormBody (w ∷ ws)) m.2 (cc (lexeme, i.0), i.1))
     (λ (c, x). ⊎_elim
-    (λ (c, x).
-    let m = mapped (Apply w.bytes) _ f x in
-    let i = arguments_are ws m.0 m.1 in
-    let lexeme = to_name w c in
-    subst (FormBody (w ∷ ws)) m.2 (cc (lexeme.0, i.0), (lexeme.1, i.1)))
+    (λ (c, x). gate_is w ws f c x)
     (λ (c, x). absurd (cc))
     (tested _ _ _ _ x))
     (tested _ _ _ _ x))
@@ -167,6 +190,31 @@ in_include w (q ∷ []) text s e =
     rw (from_ident w (codes "include") s, t.0, t.1) refl
 in_include w (q ∷ v ∷ vs) text s e = absurd (cc)
 
+-- a gate that is spelled is found behind its name
+is_gate : (name : List ℕ) (args : List Argument) (vs : List Lexeme) → map shape vs ≡ arguments args → AreArguments args → gate_at name vs ≡ Some (Apply name args)
+unfolding gate_at
+is_gate name args vs e h =
+    let shut = closed args vs (e, h) in
+    let i = are_arguments args vs (e, h) in
+    rw (shut, i) refl
+
+is_turned : (r : Rotation) (a : Argument) (w : Lexeme) (vs : List Lexeme) → map shape (w ∷ vs) ≡ rotation r ++ argument a → IsRotation r → IsArgument a → gate_at r.name vs ≡ Some (Turn r a)
+unfolding gate_at
+is_turned r a w vs e h f =
+    let x = is_rotated r w vs (argument a) e h in
+    let n = is_argument x.0.1 a x.4 f in
+    ap (λ (t : Bool). cond t (turn_in r.name (in_parens vs)) (option_map (Apply r.name) (arguments_at vs))) x.1
+    ∙ ap (turn_in r.name) x.2 ∙ ap (λ (o : Option Rotation). both Turn o (argument_at x.0.1)) x.3 ∙ ap (both Turn (Some r)) n
+
+-- a name that is free begins no other form
+in_named : (f : Form) (w : Lexeme) (vs : List Lexeme) (name : List ℕ) → shape w ≡ ident name → is_free name ≡ true → gate_at name vs ≡ Some f → form_behind w vs ≡ Some f
+unfolding form_behind
+in_named f w vs name s free found =
+    let n = free_is name free in
+    let t = from_name w name s free in
+    let i = ap (λ (b : List ℕ). gate_at b vs) t.1 ∙ found in
+    rw (not_ident w name (codes "include") s n.1.0, not_ident w name (codes "qreg") s n.1.1.0, not_ident w name (codes "creg") s n.1.1.1.0, not_ident w name (codes "gate") s n.1.1.1.1.1.1.1.1.1.0, not_ident w name (codes "barrier") s n.1.1.1.1.0, t.0, i) refl
+
 -- a form that is spelled is found behind its first lexeme
 in_form : (f : Form) (w : Lexeme) (vs : List Lexeme) → map shape (w ∷ vs) ≡ front_of f → HasParts f → form_behind w vs ≡ Some f
 unfolding form_behind
@@ -177,12 +225,8 @@ in_form (Barrier args) w vs e h =
     let s : shape w ≡ ident (codes "barrier") = cc in
     let i = are_arguments args vs (cc, h) in
     rw (not_ident w (codes "barrier") (codes "include") s refl, not_ident w (codes "barrier") (codes "qreg") s refl, not_ident w (codes "barrier") (codes "creg") s refl, not_ident w (codes "barrier") (codes "gate") s refl, from_ident w (codes "barrier") s, i) refl
-in_form (Apply name args) w vs e h =
-    let s : shape w ≡ ident name = cc in
-    let i = are_arguments args vs (cc, h.1) in
-    let n = free_is name h.0 in
-    let t = from_name w name s h.0 in
-    rw (not_ident w name (codes "include") s n.1.0, not_ident w name (codes "qreg") s n.1.1.0, not_ident w name (codes "creg") s n.1.1.1.0, not_ident w name (codes "gate") s n.1.1.1.1.1.1.1.1.1.0, not_ident w name (codes "barrier") s n.1.1.1.1.0, t.0, i, t.1) refl
+in_form (Apply name args) w vs e h = in_named (Apply name args) w vs name (cc) h.0 (is_gate name args vs (cc) h.1)
+in_form (Turn r a) w vs e h = in_named (Turn r a) w vs r.name (cc) (free_rotation r.name h.0.name) (is_turned r a w vs e h.0 h.1)
 in_form (Define name list body) w vs e h =
     let s : shape w ≡ ident (codes "gate") = cc in
     let i = is_definition vs name list body (cc, h.0, h.1, h.2) in
@@ -196,6 +240,7 @@ in_body (Qreg name size) [] e h = absurd (cc)
 in_body (Creg name size) [] e h = absurd (cc)
 in_body (Barrier args) [] e h = absurd (cc)
 in_body (Apply name args) [] e h = absurd (cc)
+in_body (Turn r a) [] e h = absurd (cc)
 in_body (Define name list body) [] e h = absurd (cc)
 in_body f (w ∷ vs) e h = in_form f w vs e h
 
@@ -210,6 +255,7 @@ form_to [] f h = absurd (none f (h.0 ∙ whole_is f))
     none (Creg name size) e = cc
     none (Barrier args) e = cc
     none (Apply name args) e = cc
+    none (Turn r a) e = cc
     none (Define name list body) e = cc
 form_to (v ∷ vs) f h =
     let p = parts shape (v ∷ vs) (front_of f) (mark (end_of f) ∷ []) (h.0 ∙ whole_is f) in

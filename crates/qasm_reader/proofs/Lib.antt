@@ -1,6 +1,7 @@
 pub mod Shapes
 pub mod Splits
 pub mod Arguments
+pub mod Rotations
 pub mod Entries
 pub mod Grammar
 pub mod Lookups

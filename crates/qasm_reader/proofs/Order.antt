@@ -4,7 +4,7 @@ use Rattle.std.specs.List.{find, list_any}
 use Rattle.std.proofs.lemmas.Bool.{eqb-true}
 use Rattle.std.proofs.lemmas.List.{at_drop_more}
 use Rattle.qasm_reader.specs.declared.refusal.Refusal.{Refusal}
-use Rattle.qasm_reader.specs.declared.refusal.Refusal.TheVariants.{Header, BadByte, Statement as NoStatement, UnknownGate, UnknownRegister, Index, SameQubit, Qubits, TooManyT, TooLong, NotInProfile, TwoNames, Body, TooManyGates}
+use Rattle.qasm_reader.specs.declared.refusal.Refusal.TheVariants.{Header, BadByte, Statement as NoStatement, UnknownGate, UnknownRegister, Index, SameQubit, Qubits, TooManyT, TooLong, NotInProfile, TwoNames, Body, TooManyGates, Angle}
 use Rattle.qasm_reader.specs.Refusals.{number_of}
 use Rattle.qasm_reader.specs.State.{State}
 use Rattle.qasm_reader.specs.Rows.{Statement, applies, order, row_of}
@@ -13,7 +13,7 @@ use Rattle.qasm_reader.specs.Rows.{Statement, applies, order, row_of}
 reason_with : ℕ → Refusal
 reason_with n = if n == 1 then Header else if n == 2 then BadByte else if n == 3 then NoStatement else if n == 4 then UnknownGate
     else if n == 5 then UnknownRegister else if n == 6 then Index else if n == 7 then SameQubit else if n == 8 then Qubits
-    else if n == 9 then TooManyT else if n == 10 then TooLong else if n == 11 then NotInProfile else if n == 12 then TwoNames else if n == 17 then Body else TooManyGates
+    else if n == 9 then TooManyT else if n == 10 then TooLong else if n == 11 then NotInProfile else if n == 12 then TwoNames else if n == 17 then Body else if n == 18 then TooManyGates else Angle
 
 -- a reason is that of its number
 back : (why : Refusal) → reason_with (number_of why) ≡ why
@@ -32,6 +32,7 @@ back NotInProfile = refl
 back TwoNames = refl
 back Body = refl
 back TooManyGates = refl
+back Angle = refl
 
 -- whether a reason is in the list
 abbrev pub is_among : List Refusal → Refusal → Bool

@@ -1,12 +1,12 @@
 -- A circuit that a text reads as is small: a statement that is taken keeps to the limits, and its gates fit the qubits.
-use Rattle.std.proofs.Common.{◌≡◌, ℕ, ◌+◌, ◌<◌, ◌≤◌, false, List, [], ◌∷◌, ◌++◌, length, Option, Some, None, Ok, refl, sym, subst, arith, length-append}
+use Rattle.std.proofs.Common.{◌≡◌, ℕ, ◌+◌, ◌<◌, ◌≤◌, true, false, List, [], ◌∷◌, ◌++◌, length, Option, Some, None, Ok, refl, sym, subst, arith, length-append}
 use Rattle.std.specs.List.{AllByRecursion}
 use Rattle.tc_circuit.specs.Circuit.{Gates}
 use Rattle.tc_circuit.specs.Model.{IsCircuit, t_count_of}
 use Rattle.tc_circuit.specs.declared.circuit.Gate.{Gate}
 use Rattle.qasm_reader.specs.Limits.{most_qubits, most_t_gates, most_gates, most_statements}
 use Rattle.qasm_reader.specs.Lexemes.{Lexeme}
-use Rattle.qasm_reader.specs.Forms.{Form, Include, Qreg, Creg, Barrier, Apply, Define, HasForm}
+use Rattle.qasm_reader.specs.Forms.{Form, Include, Qreg, Creg, Barrier, Apply, Turn, Define, HasForm}
 use Rattle.qasm_reader.specs.State.{Register, State, start, value, after, gates_in, defined}
 use Rattle.qasm_reader.specs.Rows.{Statement, has_bad_body, has_too_many_gates, row_of}
 use Rattle.qasm_reader.specs.Run.{IsTakeable}
@@ -48,6 +48,21 @@ small_counted : (s : State) → IsSmall s → s.count < most_statements → IsSm
 small_counted s h k =
     record { inside = h.inside; sound = h.sound; few = h.few; none = h.none; fit = h.fit; low = h.low; short = h.short; counted = omega (arith, k) }
 
+-- nor does one that adds gates make it large
+small_gates : (s : State) (added : List Gate) → IsSmall s → IsCircuit s.qubits added → t_count_of s.gates + t_count_of added ≤ most_t_gates → length s.gates + length added ≤ most_gates → s.count < most_statements
+    → IsSmall (record s { began = true; gates = s.gates ++ added; count = s.count + 1 })
+small_gates s added h fit low few counted =
+    record {
+      inside = h.inside;
+      sound = h.sound;
+      few = h.few;
+      none = λ e. absurd (cc);
+      fit = circuit_append s.qubits s.gates added h.fit fit;
+      low = subst (λ (n : ℕ). n ≤ most_t_gates) (sym (t_count-append s.gates added)) low;
+      short = omega (arith, few, length-append s.gates added);
+      counted = omega (arith, counted);
+    }
+
 -- a statement that can be taken keeps a state small
 small_after : (s : State) (f : Option Form) → IsSmall s → IsTakeable s f → IsShort s f → IsSmall (after s f)
 small_after s None h t k = small_counted s h k.counted
@@ -67,18 +82,8 @@ small_after s (Some (Qreg name size)) h t k =
 small_after s (Some (Creg name size)) h t k =
     record { inside = h.inside; sound = h.sound; few = h.few; none = h.none; fit = h.fit; low = h.low; short = h.short; counted = omega (arith, k.counted) }
 small_after s (Some (Barrier args)) h t k = small_counted s h k.counted
-small_after s (Some (Apply name args)) h t k =
-    let added = gates_in s (Some (Apply name args)) in
-    record {
-      inside = h.inside;
-      sound = h.sound;
-      few = h.few;
-      none = λ e. absurd (cc);
-      fit = circuit_append s.qubits s.gates added h.fit t.2;
-      low = subst (λ (n : ℕ). n ≤ most_t_gates) (sym (t_count-append s.gates added)) t.3;
-      short = omega (arith, k.few, length-append s.gates added);
-      counted = omega (arith, k.counted);
-    }
+small_after s (Some (Apply name args)) h t k = small_gates s (gates_in s (Some (Apply name args))) h t.2 t.3 k.few k.counted
+small_after s (Some (Turn r a)) h t k = small_gates s (gates_in s (Some (Turn r a))) h t.2 t.3 k.few k.counted
 small_after s (Some (Define name list body)) h t k =
     let good : has_bad_body s (Some (Define name list body)) ≡ false = t.1 in
     record {
@@ -102,6 +107,10 @@ few_gates s ws (Some (Barrier args)) h row = omega (arith, h)
 few_gates s ws (Some (Define name list body)) h row = omega (arith, h)
 few_gates s ws (Some (Apply name args)) h row =
     let p : Statement = record { lexemes = ws; form = Some (Apply name args) } in
+    let many : has_too_many_gates s p.form ≡ false = unmet s p TooManyGates row refl in
+    ltb-false _ _ many
+few_gates s ws (Some (Turn r a)) h row =
+    let p : Statement = record { lexemes = ws; form = Some (Turn r a) } in
     let many : has_too_many_gates s p.form ≡ false = unmet s p TooManyGates row refl in
     ltb-false _ _ many
 

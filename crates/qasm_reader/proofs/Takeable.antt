@@ -10,16 +10,18 @@ use Rattle.tc_circuit.specs.declared.circuit.Gate.TheVariants.{H, S, Sdg, T, Tdg
 use Rattle.tc_circuit.specs.Gate.{Fits}
 use Rattle.tc_circuit.specs.Model.{IsCircuit}
 use Rattle.qasm_reader.specs.declared.refusal.Refusal.TheVariants.{Statement as NoStatement, NotInProfile, TwoNames, Body, UnknownRegister, Index, SameQubit, Qubits, TooManyT, TooManyGates, TooLong}
-use Rattle.qasm_reader.specs.Limits.{most_qubits, most_statements}
+use Rattle.qasm_reader.specs.Limits.{most_qubits, most_statements, most_gates_defined}
 use Rattle.qasm_reader.specs.Lexemes.{Lexeme}
-use Rattle.qasm_reader.specs.Forms.{Argument, bare, Entry, Bar, Call, Form, Include, Qreg, Creg, Barrier, Apply, Define, HasForm}
-use Rattle.qasm_reader.specs.Known.{Known, look_up, table, known}
+use Rattle.qasm_angle.specs.declared.angles.AngleValue.{AngleValue}
+use Rattle.qasm_angle.specs.declared.angles.AngleValue.TheVariants.{Eighths, Inexact, NotAngle}
+use Rattle.qasm_reader.specs.Forms.{Argument, bare, Entry, Bar, Call, Spin, Form, Include, Qreg, Creg, Barrier, Apply, Turn, Define, HasForm}
+use Rattle.qasm_reader.specs.Known.{Known, look_up, table, known, turn, turned}
 use Rattle.qasm_reader.specs.State.{Register, State, value, find_register, qubits_in, qubits_at, qubits_of, placed, expanded, gates_at, place_among, called, entry_gates, with_gate}
 use Rattle.qasm_reader.specs.Rows.{Statement, row_of, takes_other, takes_bare, has_other_arity, has_bare, is_outside, is_no_statement, is_not_in_profile, is_taken, has_stranger, is_bad_call, is_bad_entry, has_bad_body, has_no_register, has_bad_index, names_twice, has_twins, has_too_many_qubits, has_too_many_t, has_too_many_gates, arity_in}
 use Rattle.qasm_reader.specs.Run.{IsTakeable}
 use Rattle.qasm_reader.proofs.Registers.{Inside}
 use Rattle.qasm_reader.proofs.Order.{unmet}
-use Rattle.qasm_reader.proofs.Places.{or_false, places_below, places_apart}
+use Rattle.qasm_reader.proofs.Places.{or_false, place_below, places_below, places_apart}
 
 -- a test that decides whether a gate fits
 fits : ℕ → Gate → Bool
@@ -239,9 +241,56 @@ below_three n (q ∷ qs) h b = (omega (arith, b.0), below_three n qs h b.1)
 pub few_below : (n : ℕ) (qs : List ℕ) → n ≤ 3 → Below n qs → has_twins qs ≡ false → length qs ≤ 3
 few_below n qs h b t = few_apart qs (below_three n qs h b) t
 
+-- one of two circuits is one
+one_of : (t : Bool) (xs ys : List Gate) → IsCircuit 1 xs → IsCircuit 1 ys → IsCircuit 1 (cond t xs ys)
+one_of true xs ys a b = a
+one_of false xs ys a b = b
+
+-- the gates of a turn fit one qubit
+turn_fits : (j : ℕ) → IsCircuit 1 (turn j)
+turn_fits j =
+    one_of (j == 1) _ _ (omega arith, tt)
+    (one_of (j == 2) _ _ (omega arith, tt)
+    (one_of (j == 3) _ _ (omega arith, (omega arith, tt))
+    (one_of (j == 4) _ _ (omega arith, (omega arith, tt))
+    (one_of (j == 5) _ _ (omega arith, (omega arith, (omega arith, tt)))
+    (one_of (j == 6) _ _ (omega arith, tt) (one_of (j == 7) _ _ (omega arith, tt) tt))))))
+
+-- one of two short lists is short
+short_of : (t : Bool) (xs ys : List Gate) → length xs ≤ 3 → length ys ≤ 3 → length (cond t xs ys) ≤ 3
+short_of true xs ys a b = a
+short_of false xs ys a b = b
+
+-- a turn has few gates
+turn_short : (j : ℕ) → length (turn j) ≤ 3
+turn_short j =
+    short_of (j == 1) _ _ (omega arith) (short_of (j == 2) _ _ (omega arith) (short_of (j == 3) _ _ (omega arith) (short_of (j == 4) _ _ (omega arith)
+    (short_of (j == 5) _ _ (omega arith) (short_of (j == 6) _ _ (omega arith) (short_of (j == 7) _ _ (omega arith) (omega arith)))))))
+
+-- the gate of an angle has few
+pub turned_few : (v : AngleValue) (g : Known) → turned v ≡ Some g → length g.gates ≤ most_gates_defined
+turned_few (Eighths j) g e = let gates : turn j ≡ g.gates = cc in omega (arith, turn_short j, ap (λ (l : List Gate). length l) gates)
+turned_few Inexact g e = absurd (cc)
+turned_few NotAngle g e = absurd (cc)
+
+-- it takes one argument
+pub turned_narrow : (v : AngleValue) → IfSome (turned v) (λ g. g.arity ≤ most_qubits)
+turned_narrow (Eighths j) = omega arith
+turned_narrow Inexact = tt
+turned_narrow NotAngle = tt
+
 -- the gates of a good entry fit the names
 entry_fits : (gates : List ℕ → Option Known) (names : List (List ℕ)) (x : Entry) → AreSound gates → is_bad_entry gates names x ≡ false → IsCircuit (length names) (entry_gates gates names x)
 entry_fits gates names (Bar args) sound e = tt
+entry_fits gates names (Spin r name) sound e = go r.value
+  where
+    place : ℕ
+    place = place_among names name
+
+    go : (v : AngleValue) → IsCircuit (length names) (called (turned v) (place ∷ []))
+    go (Eighths j) = circuit_placed (length names) (place ∷ []) (turn j) (place_below names name (not-false _ e), tt) refl (turn_fits j)
+    go Inexact = tt
+    go NotAngle = tt
 entry_fits gates names (Call name args) sound e =
     let p = or_false (has_stranger names args) _ e in
     go (gates name) refl p.0 p.1
@@ -305,6 +354,12 @@ gates_fit : (gates : List ℕ → Option Known) → AreSound gates → (n : ℕ)
 gates_fit gates sound n rs args name None e i other bare reg out twins = tt
 gates_fit gates sound n rs args name (Some g) e i other bare reg out twins = expanded_fits n rs args g i (sound name g e) other bare reg out twins
 
+-- the gates of an angle on each qubit of an argument fit
+turns_fit : (n : ℕ) (rs : List Register) (args : List Argument) (v : AngleValue) → Inside n rs → IsCircuit n (gates_at (turned v) (flat_map (qubits_of rs) args))
+turns_fit n rs args (Eighths j) i = circuit_each n (flat_map (qubits_of rs) args) (turn j) (of_below n rs args i) (turn_fits j)
+turns_fit n rs args Inexact i = tt
+turns_fit n rs args NotAngle i = tt
+
 -- the first argument's register has a qubit
 some_qubit : (n : ℕ) (rs : List Register) (args : List Argument) → Inside n rs → 0 < length args → list_any (λ a. is_none (find_register rs a.name)) args ≡ false → 0 < n
 some_qubit n rs [] i h e = absurd (omega arith)
@@ -354,6 +409,15 @@ takeable s ws (Some (Apply name args)) h i few sound row =
       some_qubit s.qubits s.registers args i h.1.1.0 registers,
       gates_narrow (s.known name) s.qubits s.registers args i few (other_arity s p row) (no_bare_argument s p row) registers index twins,
       gates_fit s.known sound s.qubits s.registers args name (s.known name) refl i (other_arity s p row) (no_bare_argument s p row) registers index twins,
+      ltb-false _ _ t,
+    )
+takeable s ws (Some (Turn r a)) h i few sound row =
+    let p : Statement = record { lexemes = ws; form = Some (Turn r a) } in
+    let registers : has_no_register s p.form ≡ false = unmet s p UnknownRegister row refl in
+    let t : has_too_many_t s p.form ≡ false = unmet s p TooManyT row refl in (
+      some_qubit s.qubits s.registers (a ∷ []) i (omega arith) registers,
+      turned_narrow r.value,
+      turns_fit s.qubits s.registers (a ∷ []) r.value i,
       ltb-false _ _ t,
     )
 takeable s ws (Some (Define name list body)) h i few sound row =

@@ -8,7 +8,7 @@ use Rattle.tc_circuit.specs.Model.{t_count_of}
 use Rattle.qasm_lex.specs.declared.token.Kind.{Kind}
 use Rattle.qasm_lex.specs.declared.token.Kind.TheVariants.{Semi, Comma, LeftParen}
 use Rattle.qasm_reader.specs.declared.refusal.Refusal.{Refusal}
-use Rattle.qasm_reader.specs.declared.refusal.Refusal.TheVariants.{Header, BadByte, Statement as NoStatement, UnknownGate, UnknownRegister, Index, SameQubit, Qubits, TooManyT, TooLong, NotInProfile, TwoNames, Body, TooManyGates}
+use Rattle.qasm_reader.specs.declared.refusal.Refusal.TheVariants.{Header, BadByte, Statement as NoStatement, UnknownGate, UnknownRegister, Index, SameQubit, Qubits, TooManyT, TooLong, NotInProfile, TwoNames, Body, TooManyGates, Angle}
 use Rattle.qasm_reader.specs.Lexemes.{Lexeme, code_of, is_kind, is_ident, is_name, is_free, closer}
 use Rattle.qasm_reader.specs.Forms.{Argument, Form, Include, Qreg, Apply, HasParts, Shape, shape, ident, quoted, mark, in_brackets, index_in, arguments, IsForm}
 use Rattle.qasm_reader.specs.Known.{Known}
@@ -59,18 +59,24 @@ and_none : (x y : Bool) → y ≡ false → (x && y) ≡ false
 and_none true y e = e
 and_none false y e = refl
 
+-- or by its left part
+none_and : (x y : Bool) → x ≡ false → (x && y) ≡ false
+none_and true y e = absurd (cc)
+none_and false y e = refl
+
 -- a disjunction of failing parts fails
 or_none : (x y : Bool) → x ≡ false → y ≡ false → (x || y) ≡ false
 or_none x y e f = rw (e, f) refl
 
 -- a word that isn't foreign nor that of a definition, and a shape that is no parenthesis, begin a statement of the profile
-at_home : (ws : List Lexeme) (b : List ℕ) (s : Shape) (more : List Shape) → map shape ws ≡ ident b ∷ s ∷ more → list_any (λ text. bytes_eq b text) foreign ≡ false → bytes_eq b (codes "gate") ≡ false
-    → (code_of s.kind == code_of LeftParen) ≡ false → is_outside_profile ws ≡ false
-at_home [] b s more e f d k = absurd (cc)
-at_home (w ∷ []) b s more e f d k = absurd (cc)
-at_home (w ∷ v ∷ vs) b s more e f d k =
+at_home : (ws : List Lexeme) (f : Option Form) (b : List ℕ) (s : Shape) (more : List Shape) → map shape ws ≡ ident b ∷ s ∷ more → list_any (λ text. bytes_eq b text) foreign ≡ false → bytes_eq b (codes "gate") ≡ false
+    → (code_of s.kind == code_of LeftParen) ≡ false → is_outside_profile (record { lexemes = ws; form = f }) ≡ false
+at_home [] form b s more e f d k = absurd (cc)
+at_home (w ∷ []) form b s more e f d k = absurd (cc)
+at_home (w ∷ v ∷ vs) form b s more e f d k =
     or_none _ _ (none_of w b foreign (cc) f)
-    (or_none _ _ (and_none (is_name w) _ (not_kind v s.kind LeftParen s.bytes (cc) k)) (ap (λ (t : Bool). t && list_any is_beyond_bodies (w ∷ v ∷ vs)) (not_ident w b (codes "gate") (cc) d)))
+    (or_none _ _ (none_and _ _ (and_none (is_name w) _ (not_kind v s.kind LeftParen s.bytes (cc) k)))
+    (none_and _ _ (ap (λ (t : Bool). t && list_any is_beyond_bodies (w ∷ v ∷ vs)) (not_ident w b (codes "gate") (cc) d))))
 
 -- a form with its end is a statement, but for the number of its arguments
 is_statement : (gate : Option ℕ) (ws : List Lexeme) (f : Form) → IsForm ws f → has_other_arity gate (Some f) ≡ false → is_no_statement gate (record { lexemes = ws; form = Some f }) ≡ false
@@ -78,7 +84,7 @@ unfolding is_no_statement
 is_statement gate ws f form arity = or_none _ _ (ap not (form_ends ws f form)) (or_none _ _ refl arity)
 
 -- a form that begins at home is in the profile, but for its text and its arguments
-is_in_profile : (gate : Option ℕ) (ws : List Lexeme) (f : Form) → is_outside_profile ws ≡ false → includes_other (Some f) ≡ false → has_bare gate (Some f) ≡ false
+is_in_profile : (gate : Option ℕ) (ws : List Lexeme) (f : Form) → is_outside_profile (record { lexemes = ws; form = Some f }) ≡ false → includes_other (Some f) ≡ false → has_bare gate (Some f) ≡ false
     → is_not_in_profile gate (record { lexemes = ws; form = Some f }) ≡ false
 unfolding is_not_in_profile
 is_in_profile gate ws f home text bare = or_none _ _ (and_none (ends ws) _ home) (or_none _ _ text bare)
@@ -94,10 +100,11 @@ includes_are_taken s ws form short = all_unmet s p row
     row Header = refl
     row BadByte = refl
     row NoStatement = is_statement None ws (Include (codes "\"qelib1.inc\"")) form refl
-    row NotInProfile = is_in_profile None ws (Include (codes "\"qelib1.inc\"")) (at_home ws (codes "include") (quoted (codes "\"qelib1.inc\"")) (mark Semi ∷ []) form.0 refl refl refl) refl refl
+    row NotInProfile = is_in_profile None ws (Include (codes "\"qelib1.inc\"")) (at_home ws (Some (Include (codes "\"qelib1.inc\""))) (codes "include") (quoted (codes "\"qelib1.inc\"")) (mark Semi ∷ []) form.0 refl refl refl) refl refl
     row TwoNames = refl
     row Body = refl
     row UnknownGate = refl
+    row Angle = refl
     row UnknownRegister = refl
     row Index = refl
     row SameQubit = refl
@@ -117,10 +124,11 @@ registers_are_taken s ws name size form new = all_unmet s p row
     row Header = refl
     row BadByte = refl
     row NoStatement = is_statement None ws (Qreg name size) form refl
-    row NotInProfile = is_in_profile None ws (Qreg name size) (at_home ws (codes "qreg") (ident name) (in_brackets size ++ mark Semi ∷ []) form.0 refl refl refl) refl refl
+    row NotInProfile = is_in_profile None ws (Qreg name size) (at_home ws (Some (Qreg name size)) (codes "qreg") (ident name) (in_brackets size ++ mark Semi ∷ []) form.0 refl refl refl) refl refl
     row TwoNames = or_none _ _ new.named new.began
     row Body = refl
     row UnknownGate = refl
+    row Angle = refl
     row UnknownRegister = refl
     row Index = or_none _ _ (ne_eqb (value size) 0 (λ e. omega (arith, e, new.some))) refl
     row SameQubit = refl
@@ -137,10 +145,10 @@ arguments_begin (a ∷ []) h = (a.name, index_in a.index, refl)
 arguments_begin (a ∷ b ∷ args) h = (a.name, index_in a.index ++ mark Comma ∷ arguments (b ∷ args), refl)
 
 -- a gate's statement begins at home
-gate_at_home : (ws : List Lexeme) (name : List ℕ) (args : List Argument) → IsForm ws (Apply name args) → is_outside_profile ws ≡ false
+gate_at_home : (ws : List Lexeme) (name : List ℕ) (args : List Argument) → IsForm ws (Apply name args) → is_outside_profile (record { lexemes = ws; form = Some (Apply name args) }) ≡ false
 gate_at_home ws name args form =
     let first = arguments_begin args form.1.1.0 in
-    at_home ws name (ident first.0) (first.1 ++ mark Semi ∷ []) (form.0 ∙ ap (λ (l : List Shape). (ident name ∷ l) ++ mark Semi ∷ []) first.2) (free_at_home name form.1.0) (no_definition name form.1.0) refl
+    at_home ws (Some (Apply name args)) name (ident first.0) (first.1 ++ mark Semi ∷ []) (form.0 ∙ ap (λ (l : List Shape). (ident name ∷ l) ++ mark Semi ∷ []) first.2) (free_at_home name form.1.0) (no_definition name form.1.0) refl
 
 -- arguments with an index have no bare one
 none_bare : (rs : List Register) (args : List Argument) → AllByRecursion (IsIndexed rs) args → list_any (λ a. is_none a.index) args ≡ false
@@ -184,6 +192,7 @@ gates_are_taken s ws name args g form known new = all_unmet s p row
     row TwoNames = refl
     row Body = refl
     row UnknownGate = ap is_none takes
+    row Angle = refl
     row UnknownRegister = none_unfound s.registers args new.indexed
     row Index = none_outside s.registers args new.indexed
     row SameQubit = new.apart

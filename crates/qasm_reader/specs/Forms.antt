@@ -1,10 +1,16 @@
 -- The forms of a statement: how each is spelled in tokens (OpenQASM 2.0).
--- An include, a register of qubits, a register of bits, a barrier, a gate on arguments, and a definition of a gate without
--- parameters, whose body holds gates and barriers on its names.
-use Rattle.std.specs.Prelude.{◌≡◌, ℕ, ◌<◌, IsTrue, IfSome, List, [], ◌∷◌, ◌++◌, length, map, codes, Option, Some, None, MatchOption}
+-- An include, a register of qubits, a register of bits, a barrier, a gate on arguments, a gate of an angle on an argument, and a
+-- definition of a gate without parameters, whose body holds gates, gates of an angle and barriers on its names.
+use Rattle.std.specs.Prelude.{◌≡◌, ℕ, ◌<◌, Bool, true, false, ◌||◌, IsTrue, IfSome, List, [], ◌∷◌, ◌++◌, length, map, codes, Option, Some, None, MatchOption}
 use Rattle.std.specs.List.{AllByRecursion, flat_map}
+use Rattle.std.specs.Str.{bytes_eq}
 use Rattle.qasm_lex.specs.declared.token.Kind.{Kind}
 use Rattle.qasm_lex.specs.declared.token.Kind.TheVariants.{Ident, Number, Quoted, Semi, Comma, LeftBracket, RightBracket, LeftBrace, RightBrace, LeftParen, RightParen, Other}
+use Rattle.qasm_angle.specs.declared.symbols.Symbol.{Symbol}
+use Rattle.qasm_angle.specs.declared.angles.AngleValue.{AngleValue}
+use Rattle.qasm_angle.specs.declared.angles.AngleValue.TheVariants.{Eighths, Inexact, NotAngle}
+use Rattle.qasm_angle.specs.Symbols.{symbol}
+use Rattle.qasm_angle.specs.Angles.{HasValue}
 use Rattle.qasm_reader.specs.Lexemes.{Lexeme, is_free, is_whole}
 
 -- `name` or `name [ digits ]`
@@ -12,10 +18,22 @@ pub record Argument : Type 0 where
   pub name : List ℕ
   pub index : Option (List ℕ)
 
--- what an entry of a gate's body says: a barrier, or a gate, on names
+-- what a spelling says of a token: its kind, and its bytes where the kind leaves them open
+pub record Shape : Type 0 where
+  pub kind : Kind
+  pub bytes : List ℕ
+
+-- a gate of an angle: its name, the tokens of the angle, and what the angle is
+pub record Rotation : Type 0 where
+  pub name : List ℕ
+  pub angle : List Shape
+  pub value : AngleValue
+
+-- what an entry of a gate's body says: a barrier, or a gate, on names, or a gate of an angle, on a name
 pub data Entry : Type 0 where
   Bar : List (List ℕ) → Entry
   Call : List ℕ → List (List ℕ) → Entry
+  Spin : Rotation → List ℕ → Entry
 
 -- what a statement says: the bytes of its quoted text, names and digits; a definition has the gate's name, its names and its body
 pub data Form : Type 0 where
@@ -24,12 +42,8 @@ pub data Form : Type 0 where
   Creg : List ℕ → List ℕ → Form
   Barrier : List Argument → Form
   Apply : List ℕ → List Argument → Form
+  Turn : Rotation → Argument → Form
   Define : List ℕ → List (List ℕ) → List Entry → Form
-
--- what a spelling says of a token: its kind, and its bytes where the kind leaves them open
-pub record Shape : Type 0 where
-  pub kind : Kind
-  pub bytes : List ℕ
 
 abbrev pub told_bytes : Kind → List ℕ → List ℕ
 told_bytes Ident bytes = bytes
@@ -85,10 +99,15 @@ bare name = record { name = name; index = None }
 abbrev pub names : List (List ℕ) → List Shape
 names list = arguments (map bare list)
 
+-- `name ( angle )`
+abbrev pub rotation : Rotation → List Shape
+rotation r = ident r.name ∷ mark LeftParen ∷ (r.angle ++ mark RightParen ∷ [])
+
 -- how each entry of a body is spelled
 abbrev pub entry : Entry → List Shape
 entry (Bar args) = (ident (codes "barrier") ∷ names args) ++ mark Semi ∷ []
 entry (Call name args) = (ident name ∷ names args) ++ mark Semi ∷ []
+entry (Spin r name) = (rotation r ++ ident name ∷ []) ++ mark Semi ∷ []
 
 -- how each form is spelled
 abbrev pub spelled : Form → List Shape
@@ -97,6 +116,7 @@ spelled (Qreg name size) = (ident (codes "qreg") ∷ ident name ∷ in_brackets 
 spelled (Creg name size) = (ident (codes "creg") ∷ ident name ∷ in_brackets size) ++ mark Semi ∷ []
 spelled (Barrier args) = (ident (codes "barrier") ∷ arguments args) ++ mark Semi ∷ []
 spelled (Apply name args) = (ident name ∷ arguments args) ++ mark Semi ∷ []
+spelled (Turn r a) = (rotation r ++ argument a) ++ mark Semi ∷ []
 spelled (Define name list body) = (ident (codes "gate") ∷ ident name ∷ (names list ++ mark LeftBrace ∷ flat_map entry body)) ++ mark RightBrace ∷ []
 
 abbrev pub IsArgument : Argument → Type 0
@@ -108,9 +128,29 @@ AreArguments args = (0 < length args) × AllByRecursion IsArgument args
 abbrev pub AreNames : List (List ℕ) → Type 0
 AreNames list = AreArguments (map bare list)
 
+-- whether it is the name of a gate of an angle
+abbrev pub is_rotation : List ℕ → Bool
+is_rotation name = bytes_eq name (codes "u1") || bytes_eq name (codes "rz")
+
+-- the symbols of an angle's tokens
+abbrev pub symbols : List Shape → List Symbol
+symbols ss = map (λ s. symbol s.kind s.bytes) ss
+
+abbrev pub is_angle : AngleValue → Bool
+is_angle (Eighths j) = true
+is_angle Inexact = true
+is_angle NotAngle = false
+
+-- it has the name of a gate of an angle, and its tokens are an angle of this value
+pub record IsRotation (r : Rotation) : Type 0 where
+  pub name : IsTrue (is_rotation r.name)
+  pub value : HasValue (symbols r.angle) r.value
+  pub angle : IsTrue (is_angle r.value)
+
 abbrev pub IsEntry : Entry → Type 0
 IsEntry (Bar args) = AreNames args
 IsEntry (Call name args) = IsTrue (is_free name) × AreNames args
+IsEntry (Spin r name) = IsRotation r × IsTrue (is_free name)
 
 -- its names aren't reserved, its digits have no point, and its arguments are one or more, as are a definition's names
 abbrev pub HasParts : Form → Type 0
@@ -119,6 +159,7 @@ HasParts (Qreg name size) = IsTrue (is_free name) × IsTrue (is_whole size)
 HasParts (Creg name size) = IsTrue (is_free name) × IsTrue (is_whole size)
 HasParts (Barrier args) = AreArguments args
 HasParts (Apply name args) = IsTrue (is_free name) × AreArguments args
+HasParts (Turn r a) = IsRotation r × IsArgument a
 HasParts (Define name list body) = IsTrue (is_free name) × AreNames list × AllByRecursion IsEntry body
 
 -- the lexemes are this form, spelled

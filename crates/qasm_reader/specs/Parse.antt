@@ -1,13 +1,14 @@
 -- The form of a statement, the length of the first statement and what is behind the header, as the code takes them: one
 -- function for each step. The public clauses say nothing of them.
-use Rattle.std.specs.Prelude.{ℕ, ◌+◌, ◌&&◌, List, [], ◌∷◌, map, take, drop, codes, Option, Some, None, if◌then◌else◌, option_map, option_and_then}
+use Rattle.std.specs.Prelude.{ℕ, ◌+◌, ◌&&◌, Bool, false, List, [], ◌∷◌, map, take, drop, codes, Option, Some, None, if◌then◌else◌, option_map, option_and_then}
 use Rattle.std.specs.List.{slice_split, position_or_len}
 use Rattle.std.specs.Str.{bytes_eq}
 use Rattle.qasm_lex.specs.declared.token.Kind.{Kind}
-use Rattle.qasm_lex.specs.declared.token.Kind.TheVariants.{Number, Quoted, Semi, Comma, LeftBracket, RightBracket, LeftBrace}
+use Rattle.qasm_lex.specs.declared.token.Kind.TheVariants.{Number, Quoted, Semi, Comma, LeftBracket, RightBracket, LeftBrace, LeftParen, RightParen}
 use Rattle.qasm_lex.specs.declared.token.Token.{Token}
 use Rattle.qasm_reader.specs.Lexemes.{Lexeme, lexeme_of, is_same_kind, is_kind, is_ident, is_name, is_digits, closer}
-use Rattle.qasm_reader.specs.Forms.{Argument, Entry, Bar, Call, Form, Include, Qreg, Creg, Barrier, Apply, Define}
+use Rattle.qasm_angle.specs.Steps.{value_of}
+use Rattle.qasm_reader.specs.Forms.{Argument, Shape, shape, Rotation, is_rotation, symbols, is_angle, Entry, Bar, Call, Spin, Form, Include, Qreg, Creg, Barrier, Apply, Turn, Define}
 
 -- the lexemes without one of the kind at their end
 unfoldable pub without_last : Kind → List Lexeme → Option (List Lexeme)
@@ -58,12 +59,64 @@ names_of args = all_some (map bare_name args)
 unfoldable pub names_at : List Lexeme → Option (List (List ℕ))
 names_at ws = option_and_then names_of (arguments_at ws)
 
+abbrev pub both : {A B C : Type 0} → (A → B → C) → Option A → Option B → Option C
+both f None y = None
+both f (Some x) None = None
+both f (Some x) (Some y) = Some (f x y)
+
+-- the front, and what is behind the first lexeme of the rest
+abbrev pub around_first : List Lexeme → List Lexeme → Option (List Lexeme × List Lexeme)
+around_first front [] = None
+around_first front (w ∷ rest) = Some (front, rest)
+
+-- what is in parentheses, and what is behind them
+unfoldable pub in_parens : List Lexeme → Option (List Lexeme × List Lexeme)
+in_parens [] = None
+in_parens (o ∷ ws) =
+    let size = position_or_len (is_kind RightParen) ws in
+    if is_kind LeftParen o then around_first (take size ws) (drop size ws) else None
+
+abbrev pub rotation_with : List ℕ → List Shape → Rotation
+rotation_with name angle = record { name = name; angle = angle; value = value_of (symbols angle) }
+
+-- the gate of an angle that a name and the tokens of its angle are
+unfoldable pub rotation_of : List ℕ → List Lexeme → Option Rotation
+rotation_of name ws =
+    let r = rotation_with name (map shape ws) in
+    if is_rotation name && is_angle r.value then Some r else None
+
+-- a name alone
+unfoldable pub name_at : List Lexeme → Option (List ℕ)
+name_at (w ∷ []) = if is_name w then Some w.bytes else None
+name_at other = None
+
+abbrev pub spin_in : List ℕ → Option (List Lexeme × List Lexeme) → Option Entry
+spin_in name None = None
+spin_in name (Some x) = both Spin (rotation_of name x.0) (name_at x.1)
+
+abbrev pub turn_in : List ℕ → Option (List Lexeme × List Lexeme) → Option Form
+turn_in name None = None
+turn_in name (Some x) = both Turn (rotation_of name x.0) (argument_at x.1)
+
+-- whether a parenthesis stands first
+unfoldable pub opens : List Lexeme → Bool
+opens [] = false
+opens (w ∷ ws) = is_kind LeftParen w
+
+-- an entry behind a name
+unfoldable pub call_at : List ℕ → List Lexeme → Option Entry
+call_at name ws = if opens ws then spin_in name (in_parens ws) else option_map (Call name) (names_at ws)
+
+-- a form behind a name
+unfoldable pub gate_at : List ℕ → List Lexeme → Option Form
+gate_at name ws = if opens ws then turn_in name (in_parens ws) else option_map (Apply name) (arguments_at ws)
+
 -- an entry of a body, without its Semi
 unfoldable pub entry_at : List Lexeme → Option Entry
 entry_at [] = None
 entry_at (w ∷ ws) =
     if is_ident (codes "barrier") w then option_map Bar (names_at ws)
-    else if is_name w then option_map (Call w.bytes) (names_at ws)
+    else if is_name w then call_at w.bytes ws
     else None
 
 -- the entries of the parts behind each of which a Semi stands, but for the last part, which is empty
@@ -80,11 +133,6 @@ entries_at ws = entries_in (slice_split (is_kind Semi) ws)
 abbrev pub entries_behind : List Lexeme → Option (List Entry)
 entries_behind [] = None
 entries_behind (brace ∷ ws) = entries_at ws
-
-abbrev pub both : {A B C : Type 0} → (A → B → C) → Option A → Option B → Option C
-both f None y = None
-both f (Some x) None = None
-both f (Some x) (Some y) = Some (f x y)
 
 -- the definition behind its word
 unfoldable pub definition_at : List Lexeme → Option Form
@@ -104,7 +152,7 @@ form_behind w ws =
     else if is_ident (codes "creg") w then option_map (λ x. Creg x.0 x.1) (indexed_at ws)
     else if is_ident (codes "gate") w then definition_at ws
     else if is_ident (codes "barrier") w then option_map Barrier (arguments_at ws)
-    else if is_name w then option_map (Apply w.bytes) (arguments_at ws)
+    else if is_name w then gate_at w.bytes ws
     else None
 
 unfoldable pub form_in : List Lexeme → Option Form

@@ -5,7 +5,7 @@ use Rattle.qasm_lex.specs.declared.fault.LexFault.TheVariants.{BadByte as BadByt
 use Rattle.qasm_reader.specs.declared.fault.ReadFault.{ReadFault}
 use Rattle.qasm_reader.specs.declared.fault.ReadFault.TheVariants.{Refused, Memory}
 use Rattle.qasm_reader.specs.declared.refusal.Refusal.{Refusal}
-use Rattle.qasm_reader.specs.declared.refusal.Refusal.TheVariants.{Header, BadByte, Statement, UnknownGate, UnknownRegister, Index, SameQubit, Qubits, TooManyT, TooLong, NotInProfile, TwoNames, Body, TooManyGates}
+use Rattle.qasm_reader.specs.declared.refusal.Refusal.TheVariants.{Header, BadByte, Statement, UnknownGate, UnknownRegister, Index, SameQubit, Qubits, TooManyT, TooLong, NotInProfile, TwoNames, Body, TooManyGates, Angle}
 
 abbrev pub number_of : Refusal → ℕ
 number_of Header = 1
@@ -22,6 +22,7 @@ number_of NotInProfile = 11
 number_of TwoNames = 12
 number_of Body = 17
 number_of TooManyGates = 18
+number_of Angle = 20
 
 -- what a reader answers where there are no tokens
 abbrev pub fault_of : LexFault → ReadFault

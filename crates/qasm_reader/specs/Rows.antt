@@ -7,9 +7,11 @@ use Rattle.std.specs.Option.{is_none, is_some}
 use Rattle.tc_circuit.specs.Model.{t_count_of}
 use Rattle.qasm_lex.specs.declared.token.Kind.TheVariants.{LeftParen}
 use Rattle.qasm_reader.specs.declared.refusal.Refusal.{Refusal}
-use Rattle.qasm_reader.specs.declared.refusal.Refusal.TheVariants.{Header, BadByte, Statement as NoStatement, UnknownGate, UnknownRegister, Index, SameQubit, Qubits, TooManyT, TooLong, NotInProfile, TwoNames, Body, TooManyGates}
+use Rattle.qasm_reader.specs.declared.refusal.Refusal.TheVariants.{Header, BadByte, Statement as NoStatement, UnknownGate, UnknownRegister, Index, SameQubit, Qubits, TooManyT, TooLong, NotInProfile, TwoNames, Body, TooManyGates, Angle}
 use Rattle.qasm_reader.specs.Lexemes.{Lexeme, is_kind, is_ident, is_name, closer}
-use Rattle.qasm_reader.specs.Forms.{Argument, Entry, Bar, Call, Form, Include, Qreg, Creg, Barrier, Apply, Define}
+use Rattle.qasm_angle.specs.declared.angles.AngleValue.{AngleValue}
+use Rattle.qasm_angle.specs.declared.angles.AngleValue.TheVariants.{Eighths, Inexact, NotAngle}
+use Rattle.qasm_reader.specs.Forms.{Argument, Entry, Bar, Call, Spin, Form, Include, Qreg, Creg, Barrier, Apply, Turn, Define}
 use Rattle.qasm_reader.specs.Known.{Known}
 use Rattle.qasm_reader.specs.Limits.{most_qubits, most_t_gates, most_statements, most_gates_defined, most_gates}
 use Rattle.qasm_reader.specs.State.{Register, State, value, find_register, gate_in, gate_qubits, gates_in, defined}
@@ -50,13 +52,25 @@ abbrev pub is_definition : List Lexeme → Bool
 is_definition [] = false
 is_definition (w ∷ ws) = is_ident (codes "gate") w
 
--- a definition of a gate that has parameters, or stands on the standard's own gates
+-- a definition of a gate with a parenthesis in it, or a word of the standard's own gates
 abbrev pub is_wide_definition : List Lexeme → Bool
 is_wide_definition ws = is_definition ws && list_any is_beyond_bodies ws
 
--- a statement of OpenQASM 2.0 outside the profile, by its tokens
-abbrev pub is_outside_profile : List Lexeme → Bool
-is_outside_profile ws = is_foreign ws || (is_call ws || is_wide_definition ws)
+-- whether the form is that of a gate of an angle
+abbrev pub is_turn : Option Form → Bool
+is_turn (Some (Turn r a)) = true
+is_turn other = false
+
+-- whether the form is that of a definition
+abbrev pub defines : Option Form → Bool
+defines (Some (Define name names body)) = true
+defines other = false
+
+-- a statement of OpenQASM 2.0 outside the profile, by its tokens: it begins with a word outside the profile; or with a name and a
+-- parenthesis, and isn't a gate of an angle; or it is a definition with a parenthesis or a word of the standard's own gates, and
+-- hasn't the form of one here
+abbrev pub is_outside_profile : Statement → Bool
+is_outside_profile p = is_foreign p.lexemes || ((is_call p.lexemes && not (is_turn p.form)) || (is_wide_definition p.lexemes && not (defines p.form)))
 
 abbrev pub takes_other : Option ℕ → ℕ → Bool
 takes_other None n = false
@@ -70,7 +84,7 @@ has_other_arity arity other = false
 -- Statement: it hasn't its end; or it has it and no form, and isn't outside the profile by its tokens; or it has a known gate on
 -- another number of arguments
 unfoldable pub is_no_statement : Option ℕ → Statement → Bool
-is_no_statement arity p = not (ends p.lexemes) || ((is_none p.form && not (is_outside_profile p.lexemes)) || has_other_arity arity p.form)
+is_no_statement arity p = not (ends p.lexemes) || ((is_none p.form && not (is_outside_profile p)) || has_other_arity arity p.form)
 
 abbrev pub takes_bare : Option ℕ → List Argument → Bool
 takes_bare None args = false
@@ -89,14 +103,14 @@ includes_other other = false
 -- NotInProfile: it has its end, and is outside the profile by its tokens; or it includes another text; or a gate of two or more
 -- arguments stands on a whole register
 unfoldable pub is_not_in_profile : Option ℕ → Statement → Bool
-is_not_in_profile arity p = (ends p.lexemes && is_outside_profile p.lexemes) || (includes_other p.form || has_bare arity p.form)
+is_not_in_profile arity p = (ends p.lexemes && is_outside_profile p) || (includes_other p.form || has_bare arity p.form)
 
--- the names of gates of `qelib1.inc` that no text may define, though they aren't known
+-- the names of gates of an angle, which no text may define
 abbrev pub withheld : List (List ℕ)
-withheld = codes "ch" ∷ codes "cy" ∷ codes "cswap" ∷ codes "u1" ∷ codes "rz" ∷ []
+withheld = codes "u1" ∷ codes "rz" ∷ []
 
 -- TwoNames: it declares a register of a name that was declared before; or qubits, and a gate was applied before; or it defines a
--- gate of a name that is known or withheld
+-- gate of a name that is known, or is that of a gate of an angle
 abbrev pub is_taken : State → Option Form → Bool
 is_taken s (Some (Qreg name size)) = s.named name || s.began
 is_taken s (Some (Creg name size)) = s.named name
@@ -128,6 +142,7 @@ arity_of known name = option_map (λ g. g.arity) (known name)
 abbrev pub is_bad_entry : (List ℕ → Option Known) → List (List ℕ) → Entry → Bool
 is_bad_entry known names (Bar args) = has_stranger names args
 is_bad_entry known names (Call name args) = has_stranger names args || is_bad_call (arity_of known name) args
+is_bad_entry known names (Spin r name) = not (is_among names name)
 
 -- Body: it defines a gate whose names hold one twice; or with an entry that holds another name, or whose gate wasn't known before
 -- this statement, takes another number of arguments, or has one name twice
@@ -140,10 +155,28 @@ abbrev pub is_unknown : Option ℕ → Option Form → Bool
 is_unknown arity (Some (Apply name args)) = is_none arity
 is_unknown arity other = false
 
+-- whether an angle is a whole number of eighths of a full turn
+abbrev pub is_exact : AngleValue → Bool
+is_exact (Eighths j) = true
+is_exact Inexact = false
+is_exact NotAngle = false
+
+abbrev pub is_inexact_entry : Entry → Bool
+is_inexact_entry (Bar args) = false
+is_inexact_entry (Call name args) = false
+is_inexact_entry (Spin r name) = not (is_exact r.value)
+
+-- Angle: it applies a gate of an angle that isn't exact, or its body does
+abbrev pub has_inexact_angle : Option Form → Bool
+has_inexact_angle (Some (Turn r a)) = not (is_exact r.value)
+has_inexact_angle (Some (Define name names body)) = list_any is_inexact_entry body
+has_inexact_angle other = false
+
 -- the arguments of a barrier or a gate
 abbrev pub arguments_of : Option Form → List Argument
 arguments_of (Some (Barrier args)) = args
 arguments_of (Some (Apply name args)) = args
+arguments_of (Some (Turn r a)) = a ∷ []
 arguments_of other = []
 
 -- UnknownRegister: an argument of a barrier or a gate is of no register of qubits declared before
@@ -169,7 +202,8 @@ has_twins (q ∷ qs) = list_any (λ r. r == q) qs || has_twins qs
 
 -- SameQubit: two arguments of a gate name one qubit
 abbrev pub names_twice : State → Option Form → Bool
-names_twice s f = has_twins (gate_qubits s f)
+names_twice s (Some (Apply name args)) = has_twins (gate_qubits s (Some (Apply name args)))
+names_twice s other = false
 
 -- Qubits: with the qubits that it declares there are more than the most
 abbrev pub has_too_many_qubits : State → Option Form → Bool
@@ -179,12 +213,14 @@ has_too_many_qubits s other = false
 -- TooManyT: with its gates there are more T gates than the most
 abbrev pub has_too_many_t : State → Option Form → Bool
 has_too_many_t s (Some (Apply name args)) = nat_lt most_t_gates (t_count_of s.gates + t_count_of (gates_in s (Some (Apply name args))))
+has_too_many_t s (Some (Turn r a)) = nat_lt most_t_gates (t_count_of s.gates + t_count_of (gates_in s (Some (Turn r a))))
 has_too_many_t s other = false
 
 -- TooManyGates: it defines a gate that stands for more gates than the most; or with its gates there are more than the most
 abbrev pub has_too_many_gates : State → Option Form → Bool
 has_too_many_gates s (Some (Define name names body)) = nat_lt most_gates_defined (length (defined s.known names body).gates)
 has_too_many_gates s (Some (Apply name args)) = nat_lt most_gates (length s.gates + length (gates_in s (Some (Apply name args))))
+has_too_many_gates s (Some (Turn r a)) = nat_lt most_gates (length s.gates + length (gates_in s (Some (Turn r a))))
 has_too_many_gates s other = false
 
 -- TooLong: as many statements as there may be stand before it
@@ -204,6 +240,7 @@ applies s p NotInProfile = is_not_in_profile (arity_in s.known p.form) p
 applies s p TwoNames = is_taken s p.form
 applies s p Body = has_bad_body s p.form
 applies s p UnknownGate = is_unknown (arity_in s.known p.form) p.form
+applies s p Angle = has_inexact_angle p.form
 applies s p UnknownRegister = has_no_register s p.form
 applies s p Index = has_bad_index s p.form
 applies s p SameQubit = names_twice s p.form
@@ -214,7 +251,7 @@ applies s p TooLong = is_too_long s
 
 -- the reasons in the order of their rows
 abbrev pub order : List Refusal
-order = NoStatement ∷ NotInProfile ∷ TwoNames ∷ Body ∷ UnknownGate ∷ UnknownRegister ∷ Index ∷ SameQubit ∷ Qubits ∷ TooManyT ∷ TooManyGates ∷ TooLong ∷ []
+order = NoStatement ∷ NotInProfile ∷ TwoNames ∷ Body ∷ UnknownGate ∷ Angle ∷ UnknownRegister ∷ Index ∷ SameQubit ∷ Qubits ∷ TooManyT ∷ TooManyGates ∷ TooLong ∷ []
 
 -- the first row that applies to the statement, if one does
 unfoldable pub row_of : State → Statement → Option Refusal

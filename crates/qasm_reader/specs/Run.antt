@@ -6,9 +6,9 @@ use Rattle.qasm_reader.specs.declared.fault.ReadFault.TheVariants.{Refused, Memo
 use Rattle.qasm_reader.specs.declared.refusal.Refusal.{Refusal}
 use Rattle.qasm_reader.specs.declared.scan.Scan.{Scan}
 use Rattle.qasm_reader.specs.Lexemes.{Lexeme, statements}
-use Rattle.qasm_reader.specs.Forms.{Form, Qreg, Apply, Define}
+use Rattle.qasm_reader.specs.Forms.{Form, Qreg, Apply, Turn, Define}
 use Rattle.qasm_reader.specs.Parse.{form_of}
-use Rattle.qasm_reader.specs.State.{State, start, value, gates_in, defined, after}
+use Rattle.qasm_reader.specs.State.{State, start, value, gate_in, gates_in, defined, after}
 use Rattle.qasm_reader.specs.Limits.{most_qubits, most_t_gates, most_gates_defined}
 use Rattle.qasm_reader.specs.Refusals.{number_of}
 use Rattle.qasm_reader.specs.Rows.{Statement, has_bad_body, row_of}
@@ -22,12 +22,17 @@ statement_at ws = record { lexemes = ws; form = form_of ws }
 abbrev pub stated : List (List Lexeme) → List Statement
 stated wss = map statement_at wss
 
--- what the code relies on where it takes a form: qubits come before gates and are few; gates fit, have few T gates and are of
--- a gate that takes few arguments; and a defined gate has names, a body that is good, and few gates
+-- what the code relies on where it takes a form that applies a gate: its gates fit, have few T gates and are of a gate that takes
+-- few arguments
+abbrev pub AreTakeable : State → Option Form → Type 0
+AreTakeable s f = (0 < s.qubits) × (IfSome (gate_in s.known f) (λ g. g.arity ≤ most_qubits)) × IsCircuit s.qubits (gates_in s f) × (t_count_of s.gates + t_count_of (gates_in s f) ≤ most_t_gates)
+
+-- and where it takes any: qubits come before gates and are few, and a defined gate has names, a body that is good, and few gates
 abbrev pub IsTakeable : State → Option Form → Type 0
 IsTakeable s (Some (Qreg name size)) = (s.began ≡ false) × (0 < value size) × (s.qubits + value size ≤ most_qubits)
 IsTakeable s (Some (Define name names body)) = (0 < length names) × (has_bad_body s (Some (Define name names body)) ≡ false) × (length (defined s.known names body).gates ≤ most_gates_defined)
-IsTakeable s (Some (Apply name args)) = (0 < s.qubits) × (IfSome (s.known name) (λ g. g.arity ≤ most_qubits)) × IsCircuit s.qubits (gates_in s (Some (Apply name args))) × (t_count_of s.gates + t_count_of (gates_in s (Some (Apply name args))) ≤ most_t_gates)
+IsTakeable s (Some (Apply name args)) = AreTakeable s (Some (Apply name args))
+IsTakeable s (Some (Turn r a)) = AreTakeable s (Some (Turn r a))
 IsTakeable s other = Unit {0}
 
 -- no row applies to the statement, and this holds behind it

@@ -4,8 +4,8 @@ use Rattle.std.specs.List.{flat_map, range_with_len, position_or_len}
 use Rattle.std.specs.Str.{bytes_eq}
 use Rattle.tc_circuit.specs.declared.circuit.Gate.{Gate}
 use Rattle.tc_circuit.specs.declared.circuit.Gate.TheVariants.{H, S, Sdg, T, Tdg, Cx}
-use Rattle.qasm_reader.specs.Forms.{Argument, Entry, Bar, Call, Form, Qreg, Creg, Apply, Define}
-use Rattle.qasm_reader.specs.Known.{Known, known}
+use Rattle.qasm_reader.specs.Forms.{Argument, Entry, Bar, Call, Spin, Form, Qreg, Creg, Apply, Turn, Define}
+use Rattle.qasm_reader.specs.Known.{Known, known, turned}
 
 -- a register of qubits: its name, its first qubit, and how many it has
 pub record Register : Type 0 where
@@ -68,11 +68,13 @@ gates_at (Some g) qs = expanded g qs
 -- the qubits that the arguments of a gate name, one after another
 abbrev pub gate_qubits : State → Option Form → List ℕ
 gate_qubits s (Some (Apply name args)) = flat_map (qubits_of s.registers) args
+gate_qubits s (Some (Turn r a)) = flat_map (qubits_of s.registers) (a ∷ [])
 gate_qubits s other = []
 
--- the gate that a form applies, if it is one of the known gates
+-- the gate that a form applies: one of the known gates, or that of an exact angle
 abbrev pub gate_in : (List ℕ → Option Known) → Option Form → Option Known
 gate_in known (Some (Apply name args)) = known name
+gate_in known (Some (Turn r a)) = turned r.value
 gate_in known other = None
 
 -- the gates that a form stands for
@@ -91,6 +93,7 @@ called (Some g) places = map (placed places) g.gates
 abbrev pub entry_gates : (List ℕ → Option Known) → List (List ℕ) → Entry → List Gate
 entry_gates known names (Bar args) = []
 entry_gates known names (Call name args) = called (known name) (map (place_among names) args)
+entry_gates known names (Spin r name) = called (turned r.value) (place_among names name ∷ [])
 
 -- the gate that is defined by a body on names, where these gates are known: the gates of its entries in order
 abbrev pub defined : (List ℕ → Option Known) → List (List ℕ) → List Entry → Known
@@ -113,6 +116,7 @@ declared s (Some (Qreg name size)) = record s {
 }
 declared s (Some (Creg name size)) = record s { named = with_name name s.named }
 declared s (Some (Apply name args)) = record s { began = true; gates = s.gates ++ gates_in s (Some (Apply name args)) }
+declared s (Some (Turn r a)) = record s { began = true; gates = s.gates ++ gates_in s (Some (Turn r a)) }
 declared s (Some (Define name names body)) = record s { known = with_gate name (defined s.known names body) s.known }
 declared s other = s
 

@@ -11,10 +11,11 @@ use Rattle.tc_circuit.specs.Model.{IsCircuit, t_count_of}
 use Rattle.tc_circuit.specs.declared.circuit.Gate.{Gate}
 use Rattle.qasm_reader.specs.declared.lexemes.Lexeme.{Lexeme as CodeLexeme}
 use Rattle.qasm_reader.specs.declared.forms.Argument.{Argument as CodeArgument}
+use Rattle.qasm_reader.specs.declared.forms.Rotation.{Rotation as CodeRotation}
 use Rattle.qasm_reader.specs.declared.forms.Form.{Form as CodeForm}
-use Rattle.qasm_reader.specs.declared.forms.Form.TheVariants.{Include as CodeInclude, Qreg as CodeQreg, Creg as CodeCreg, Barrier as CodeBarrier, Apply as CodeApply, Define as CodeDefine}
+use Rattle.qasm_reader.specs.declared.forms.Form.TheVariants.{Include as CodeInclude, Qreg as CodeQreg, Creg as CodeCreg, Barrier as CodeBarrier, Apply as CodeApply, Turn as CodeTurn, Define as CodeDefine}
 use Rattle.qasm_reader.specs.declared.forms.Entry.{Entry as CodeEntry}
-use Rattle.qasm_reader.specs.declared.forms.Entry.TheVariants.{Barrier as CodeBar, Call as CodeCall}
+use Rattle.qasm_reader.specs.declared.forms.Entry.TheVariants.{Barrier as CodeBar, Call as CodeCall, Spin as CodeSpin}
 use Rattle.qasm_reader.specs.declared.gates.Known.{Known as CodeKnown}
 use Rattle.qasm_reader.specs.declared.gates.Size.{Size}
 use Rattle.qasm_reader.specs.declared.scan.Defined.{Defined}
@@ -26,9 +27,11 @@ use Rattle.qasm_reader.specs.State.{Register, State, gate_in, gate_qubits, expan
 use Rattle.qasm_reader.specs.Rows.{Statement, has_bad_body}
 use Rattle.qasm_reader.specs.Limits.{most_qubits, most_gates_defined}
 use denote.Ref.{Bor}
-use Rattle.qasm_reader.specs.Known.{Known, known}
+use Rattle.qasm_reader.specs.declared.definitions.GateSource.{GateSource}
+use Rattle.qasm_reader.specs.declared.definitions.GateSource.TheVariants.{Name, Angle}
+use Rattle.qasm_reader.specs.Known.{Known, known, turned}
 use Rattle.qasm_reader.specs.Lexemes.{Lexeme}
-use Rattle.qasm_reader.specs.Forms.{Argument, Entry, Bar, Call, Form, Include, Qreg, Creg, Barrier, Apply, Define}
+use Rattle.qasm_reader.specs.Forms.{Argument, shape, Rotation, Entry, Bar, Call, Spin, Form, Include, Qreg, Creg, Barrier, Apply, Turn, Define}
 
 abbrev pub lexeme : CodeLexeme → Lexeme
 lexeme w = record { kind = w.kind; bytes = w.bytes.now; place = w.place }
@@ -45,9 +48,13 @@ arguments args = map argument args
 abbrev pub name_list : List (Bor (List ℕ)) → List (List ℕ)
 name_list list = map (λ b. b.now) list
 
+abbrev pub rotation : CodeRotation → Rotation
+rotation r = record { name = r.name.now; angle = map shape (lexemes r.angle.items); value = r.value }
+
 abbrev pub entry : CodeEntry → Entry
 entry (CodeBar args) = Bar (name_list args.items)
 entry (CodeCall name args) = Call name.now (name_list args.items)
+entry (CodeSpin r name) = Spin (rotation r) name.now
 
 abbrev pub entries : List CodeEntry → List Entry
 entries body = map entry body
@@ -58,6 +65,7 @@ form (CodeQreg name size) = Qreg name.now size.now
 form (CodeCreg name size) = Creg name.now size.now
 form (CodeBarrier args) = Barrier (arguments args.items)
 form (CodeApply name args) = Apply name.now (arguments args.items)
+form (CodeTurn r a) = Turn (rotation r) (argument a)
 form (CodeDefine d) = Define d.name.now (name_list d.names.items) (entries d.body.items)
 
 abbrev pub known_gate : CodeKnown → Known
@@ -160,6 +168,11 @@ times arity count qubits = if arity == 1 then count * qubits else count
 abbrev pub count_at : (Size → ℕ) → Option Size → ℕ → ℕ
 count_at count None qubits = 0
 count_at count (Some size) qubits = times size.arity (count size) qubits
+
+-- the gate that this is, if it is known
+abbrev pub gate_from : (List ℕ → Option Known) → GateSource → Option Known
+gate_from known (Name name) = known name.now
+gate_from known (Angle value) = turned value
 
 -- the gates that a known gate stands for
 abbrev pub gates_of : Option Known → List Gate

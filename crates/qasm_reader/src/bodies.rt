@@ -10,7 +10,7 @@ ghost use Rattle.qasm_reader.specs.Rows.{is_among, has_twin_names, has_stranger,
 ghost use Rattle.qasm_reader.specs.View.{size_or_nothing, name_list, names, entry, entries, known_behind, counted_size, AreKept};
 
 use crate::circuits::placed;
-use crate::definitions::{gates_by_name, size_by_name};
+use crate::definitions::{gates_by_name, gates_by_value, size_by_name, size_by_value};
 use crate::finding::{add_name, contains_name};
 use crate::forms::{Definition, Entry};
 use crate::gates::Size;
@@ -20,7 +20,7 @@ use std::alloc::{AllocError, Global};
 use std::collections::BTreeSet;
 use tc_circuit::Gate;
 
-// Whether a name stands twice among the names.
+/// Whether a name stands twice among the names.
 fn has_twin_names(alloc: Global, list: &[&[u8]]) -> Result<bool, AllocError>
     ensures { IfOk result (λ twins. twins ≡ has_twin_names (name_list list.now)) }
 {
@@ -36,7 +36,7 @@ fn has_twin_names(alloc: Global, list: &[&[u8]]) -> Result<bool, AllocError>
     Ok(false)
 }
 
-// The names as a set.
+/// The names as a set.
 fn set_of<'a>(alloc: Global, list: &[&'a [u8]]) -> Result<BTreeSet<&'a [u8]>, AllocError>
     ensures { IfOk result (λ set. (other : List ℕ) → names set other ≡ is_among (name_list list.now) other) }
 {
@@ -49,7 +49,7 @@ fn set_of<'a>(alloc: Global, list: &[&'a [u8]]) -> Result<BTreeSet<&'a [u8]>, Al
     Ok(set)
 }
 
-// Whether one of the names isn't in the set.
+/// Whether one of the names isn't in the set.
 fn has_stranger<'a>(set: &BTreeSet<&'a [u8]>, args: &[&'a [u8]]) -> bool
     ensures { result ≡ list_any (λ a. not (names set.now a)) (name_list args.now) }
 {
@@ -61,7 +61,7 @@ fn has_stranger<'a>(set: &BTreeSet<&'a [u8]>, args: &[&'a [u8]]) -> bool
     false
 }
 
-// Whether a gate of this size isn't known, takes another number of arguments, or has one twice.
+/// Whether a gate of this size isn't known, takes another number of arguments, or has one twice.
 fn is_bad_call(alloc: Global, size: Option<Size>, args: &[&[u8]]) -> Result<bool, AllocError>
     ensures { IfOk result (λ bad. bad ≡ is_bad_call (option_map (λ z. z.arity) size) (name_list args.now)) }
 {
@@ -72,7 +72,7 @@ fn is_bad_call(alloc: Global, size: Option<Size>, args: &[&[u8]]) -> Result<bool
     }
 }
 
-// Whether an entry holds a name that isn't in the set, or misuses a gate.
+/// Whether an entry holds a name that isn't in the set, or misuses a gate.
 fn is_bad_entry<'a>(
     alloc: Global,
     list: &Definitions<'a>,
@@ -84,12 +84,13 @@ fn is_bad_entry<'a>(
 {
     match line {
         Entry::Barrier(args) => Ok(has_stranger(set, args)),
+        Entry::Spin(_, name) => Ok(!contains_name(set, name)),
         Entry::Call(_, args) if has_stranger(set, args) => Ok(true),
         Entry::Call(name, args) => is_bad_call(alloc, size_by_name(list, name), args),
     }
 }
 
-// Whether a name stands twice among the names of a definition, or an entry of its body is bad.
+/// Whether a name stands twice among the names of a definition, or an entry of its body is bad.
 pub(crate) fn has_bad_body<'a>(
     alloc: Global,
     list: &Definitions<'a>,
@@ -116,13 +117,14 @@ pub(crate) const NOTHING: Size = Size {
     t_count: 0,
 };
 
+/// The size, or that of no gates.
 fn size_or_nothing(size: Option<Size>) -> Size
     ensures { result ≡ size_or_nothing size }
 {
     size.unwrap_or(NOTHING)
 }
 
-// How many gates an entry stands for, and how many of them are T gates.
+/// How many gates an entry stands for, and how many of them are T gates.
 fn entry_size<'a>(list: &Definitions<'a>, line: &Entry<'a>) -> Size
     requires { AreKept list.now }
     ensures length { (among : List (List ℕ)) → result.length ≡ length (entry_gates (known_behind known list.now.list.items) among (entry line.now)) }
@@ -133,10 +135,11 @@ fn entry_size<'a>(list: &Definitions<'a>, line: &Entry<'a>) -> Size
     match line {
         Entry::Barrier(_) => NOTHING,
         Entry::Call(name, _) => size_or_nothing(size_by_name(list, name)),
+        Entry::Spin(rotation, _) => size_or_nothing(size_by_value(rotation.value)),
     }
 }
 
-// The size of the gate of a definition, where gates are counted up to one more than the most.
+/// The size of the gate of a definition, where gates are counted up to one more than the most.
 pub(crate) fn body_size<'a>(list: &Definitions<'a>, definition: &Definition<'a>) -> Size
     requires { AreKept list.now }
     ensures { result ≡ counted_size (defined (known_behind known list.now.list.items) (name_list definition.now.names.items) (entries definition.now.body.items)) }
@@ -155,7 +158,7 @@ pub(crate) fn body_size<'a>(list: &Definitions<'a>, definition: &Definition<'a>)
     }
 }
 
-// How many names stand before the name.
+/// How many names stand before the name.
 fn len_before(list: &[&[u8]], name: &[u8]) -> usize
     ensures value { result ≡ prefix_len (λ n. not (bytes_eq name.now n.now)) list.now }
     ensures within { result ≤ length list.now }
@@ -163,7 +166,7 @@ fn len_before(list: &[&[u8]], name: &[u8]) -> usize
     list.iter().take_while(|other| name != **other).count()
 }
 
-// The place of a name among few names, or their number.
+/// The place of a name among few names, or their number.
 fn place_among(list: &[&[u8]], name: &[u8]) -> u8
     requires { length list.now ≤ most_qubits }
     ensures { result ≡ place_among (name_list list.now) name.now }
@@ -171,7 +174,7 @@ fn place_among(list: &[&[u8]], name: &[u8]) -> u8
     len_before(list, name) as u8
 }
 
-// The places of names among few names.
+/// The places of names among few names.
 fn places_among(alloc: Global, list: &[&[u8]], args: &[&[u8]]) -> Result<Vec<u8>, AllocError>
     requires { length list.now ≤ most_qubits }
     ensures { IfOk result (λ v. v.items ≡ map (place_among (name_list list.now)) (name_list args.now)) }
@@ -183,7 +186,7 @@ fn places_among(alloc: Global, list: &[&[u8]], args: &[&[u8]]) -> Result<Vec<u8>
     Ok(places)
 }
 
-// Adds gates on the qubits in place of the numbers of their arguments.
+/// Adds gates on the qubits in place of the numbers of their arguments.
 fn push_placed(found: &mut Vec<Gate>, gates: &[Gate], qubits: &[u8]) -> Result<(), AllocError>
     ensures { OnOk result (found.new.items ≡ found.old.items ++ map (placed qubits.now) gates.now) }
 {
@@ -193,7 +196,7 @@ fn push_placed(found: &mut Vec<Gate>, gates: &[Gate], qubits: &[u8]) -> Result<(
     Ok(())
 }
 
-// Adds the gates of an entry.
+/// Adds the gates of an entry.
 fn push_entry<'a>(
     alloc: Global,
     found: &mut Vec<Gate>,
@@ -212,21 +215,26 @@ fn push_entry<'a>(
             let places = places_among(alloc, among, args)?;
             push_placed(found, gates_by_name(list, name), &places)
         }
+        Entry::Spin(rotation, name) => {
+            let place = place_among(among, name);
+            push_placed(found, gates_by_value(rotation.value), &[place])
+        }
     }
 }
 
-// The gates of a definition, on the places of its names.
+/// The gates of a definition, on the places of its names, where there is room for so many.
 pub(crate) fn gates_defined<'a>(
     alloc: Global,
     list: &Definitions<'a>,
     definition: &Definition<'a>,
+    length: usize,
 ) -> Result<Vec<Gate>, AllocError>
     requires kept { AreKept list.now }
     requires narrow { length definition.now.names.items ≤ most_qubits }
     requires good { list_any (is_bad_entry (known_behind known list.now.list.items) (name_list definition.now.names.items)) (entries definition.now.body.items) ≡ false }
     ensures { IfOk result (λ v. v.items ≡ (defined (known_behind known list.now.list.items) (name_list definition.now.names.items) (entries definition.now.body.items)).gates) }
 {
-    let mut gates = Vec::new(alloc);
+    let mut gates = Vec::with_capacity(alloc, length)?;
     for line in &definition.body {
         push_entry(alloc, &mut gates, list, &definition.names, line)?;
     }

@@ -9,13 +9,14 @@ use crate::gates::Size;
 use std::alloc::AllocError;
 use tc_circuit::{Circuit, Gate};
 
+/// The qubit at a place, or 0 where there is none.
 fn qubit_at(qubits: &[u8], a: u8) -> u8
     ensures { result ≡ slice_index qubits.now a }
 {
     qubits.get(usize::from(a)).copied().unwrap_or(0)
 }
 
-// The gate with qubits in place of the numbers of the arguments.
+/// The gate with qubits in place of the numbers of the arguments.
 pub(crate) fn placed(qubits: &[u8], gate: Gate) -> Gate
     ensures { result ≡ placed qubits.now gate }
 {
@@ -29,6 +30,7 @@ pub(crate) fn placed(qubits: &[u8], gate: Gate) -> Gate
     }
 }
 
+/// Adds gates on the qubits in place of the numbers of their arguments.
 fn push_placed(circuit: &mut Circuit, gates: &[Gate], qubits: &[u8]) -> Result<(), AllocError>
     requires { IsCircuit circuit.old.qubits (map (placed qubits.now) gates.now) }
     ensures qubits { circuit.new.qubits ≡ circuit.old.qubits }
@@ -40,6 +42,7 @@ fn push_placed(circuit: &mut Circuit, gates: &[Gate], qubits: &[u8]) -> Result<(
     Ok(())
 }
 
+/// Adds gates of one argument on each of the qubits in turn.
 fn push_each(circuit: &mut Circuit, gates: &[Gate], qubits: &[u8]) -> Result<(), AllocError>
     requires { IsCircuit circuit.old.qubits (flat_map (λ q. map (placed (q ∷ [])) gates.now) qubits.now) }
     ensures qubits { circuit.new.qubits ≡ circuit.old.qubits }
@@ -51,7 +54,7 @@ fn push_each(circuit: &mut Circuit, gates: &[Gate], qubits: &[u8]) -> Result<(),
     Ok(())
 }
 
-// Adds the gates of a gate of this size, which may be known, on these qubits.
+/// Adds the gates of a gate of this size, which may be known, on these qubits.
 pub(crate) fn push_gates(
     circuit: &mut Circuit,
     size: Option<Size>,
@@ -74,6 +77,7 @@ pub(crate) fn push_gates(
     }
 }
 
+/// How many of the gates are T gates.
 pub(crate) fn t_count(gates: &[Gate]) -> usize
     ensures { result ≡ t_count_of gates.now }
 {
@@ -83,8 +87,8 @@ pub(crate) fn t_count(gates: &[Gate]) -> usize
         .count()
 }
 
-// How many gates there are where a gate of this number of arguments, with so many gates, is applied to so many qubits, or the
-// greatest number where there are more.
+/// How many gates there are where a gate of this number of arguments, with so many gates, is applied to so many qubits, or the
+/// greatest number where there are more.
 pub(crate) fn times(arity: usize, count: usize, qubits: usize) -> usize
     ensures { result ≡ min (times arity count qubits) usize.MAX }
 {
@@ -95,7 +99,7 @@ pub(crate) fn times(arity: usize, count: usize, qubits: usize) -> usize
     }
 }
 
-// How many T gates a gate of this size, which may be known, has on these qubits, or the greatest number where it has more.
+/// How many T gates a gate of this size, which may be known, has on these qubits, or the greatest number where it has more.
 pub(crate) fn t_count_at(size: Option<Size>, qubits: &[u8]) -> usize
     ensures { result ≡ min (count_at (λ z. z.t_count) size (length qubits.now)) usize.MAX }
 {
@@ -105,7 +109,7 @@ pub(crate) fn t_count_at(size: Option<Size>, qubits: &[u8]) -> usize
     }
 }
 
-// How many gates it has on them, or the greatest number where it has more.
+/// How many gates it has on them, or the greatest number where it has more.
 pub(crate) fn length_at(size: Option<Size>, qubits: &[u8]) -> usize
     ensures { result ≡ min (count_at (λ z. z.length) size (length qubits.now)) usize.MAX }
 {

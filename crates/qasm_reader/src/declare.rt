@@ -9,11 +9,11 @@ ghost use Rattle.tc_circuit.specs.Model.{IsCircuit, t_count_of};
 ghost use Rattle.qasm_reader.specs.Limits.{most_qubits, most_t_gates, most_statements};
 ghost use Rattle.qasm_reader.specs.State.{value, start, with_name, gates_at, defined, declared, after};
 ghost use Rattle.qasm_reader.specs.Run.{IsTakeable};
-ghost use Rattle.qasm_reader.specs.View.{form, name_list, entries, size_of, counted_size, known_behind, gates_made, IsBehind, AreKept, state};
+ghost use Rattle.qasm_reader.specs.View.{form, name_list, entries, size_of, counted_size, gate_from, known_behind, gates_made, IsBehind, AreKept, state};
 
 use crate::bodies::gates_defined;
 use crate::circuits::{push_gates, t_count_at};
-use crate::definitions::{gates_by_name, push_definition};
+use crate::definitions::{GateSource, gates_from, push_definition};
 use crate::finding::{add_name, small_value};
 use crate::forms::{Definition, Form};
 use crate::gates::Size;
@@ -24,6 +24,7 @@ use std::alloc::{AllocError, Global};
 use std::collections::{BTreeMap, BTreeSet};
 use tc_circuit::{Circuit, Gate};
 
+/// Before the first statement.
 pub(crate) fn new_scan<'a>(alloc: Global) -> Scan<'a>
     ensures value { state result ≡ start }
     ensures kept { AreKept result.definitions }
@@ -42,8 +43,8 @@ pub(crate) fn new_scan<'a>(alloc: Global) -> Scan<'a>
     }
 }
 
-// One statement more.
-fn counted<'a>(scan: Scan<'a>) -> Scan<'a>
+/// One statement more.
+fn count_statement<'a>(scan: Scan<'a>) -> Scan<'a>
     requires { scan.count < most_statements }
     ensures value { state result ≡ record (state scan.entry) { count = (state scan.entry).count + 1 } }
     ensures kept { result.definitions ≡ scan.entry.definitions }
@@ -53,7 +54,7 @@ fn counted<'a>(scan: Scan<'a>) -> Scan<'a>
     scan
 }
 
-// One register of bits more, of which only the name is kept.
+/// One register of bits more, of which only the name is kept.
 fn with_creg<'a>(scan: Scan<'a>, name: &'a [u8]) -> Result<Scan<'a>, AllocError>
     ensures value { IfOk result (λ s. state s ≡ record (state scan.entry) { named = with_name name.now (state scan.entry).named }) }
     ensures kept { IfOk result (λ s. s.definitions ≡ scan.entry.definitions) }
@@ -63,7 +64,7 @@ fn with_creg<'a>(scan: Scan<'a>, name: &'a [u8]) -> Result<Scan<'a>, AllocError>
     Ok(scan)
 }
 
-// One register of qubits more.
+/// One register of qubits more.
 fn with_qreg<'a>(scan: Scan<'a>, name: &'a [u8], size: &[u8]) -> Result<Scan<'a>, AllocError>
     requires first { (state scan).began ≡ false }
     requires some { 0 < value size.now }
@@ -84,8 +85,8 @@ fn with_qreg<'a>(scan: Scan<'a>, name: &'a [u8], size: &[u8]) -> Result<Scan<'a>
     Ok(scan)
 }
 
-// The circuit so far, which has no gates where there is none yet.
-fn begun(alloc: Global, n: u8, circuit: Option<Circuit>) -> Circuit
+/// The circuit so far, which has no gates where there is none yet.
+fn circuit_so_far(alloc: Global, n: u8, circuit: Option<Circuit>) -> Circuit
     requires some { 0 < n }
     requires few { n ≤ most_qubits }
     requires on_all { ForSome circuit (λ c. c.qubits ≡ n) }
@@ -98,23 +99,23 @@ fn begun(alloc: Global, n: u8, circuit: Option<Circuit>) -> Circuit
     }
 }
 
-// The gates of the gate of a name, which may be known, on these qubits more.
+/// The gates of a gate, which may be known, on these qubits more.
 fn with_gates<'a>(
     alloc: Global,
     scan: Scan<'a>,
-    name: &'a [u8],
+    source: GateSource<'a>,
     size: Option<Size>,
     qubits: &[u8],
 ) -> Result<Scan<'a>, AllocError>
     requires kept { AreKept scan.definitions }
-    requires is { size ≡ option_map size_of ((state scan).known name.now) }
-    requires narrow { IfSome ((state scan).known name.now) (λ g. g.arity ≤ most_qubits) }
+    requires is { size ≡ option_map size_of (gate_from (state scan).known source) }
+    requires narrow { IfSome (gate_from (state scan).known source) (λ g. g.arity ≤ most_qubits) }
     requires some { 0 < scan.qubits }
-    requires fit { IsCircuit scan.qubits (gates_at ((state scan).known name.now) qubits.now) }
-    requires few { t_count_of (state scan).gates + t_count_of (gates_at ((state scan).known name.now) qubits.now) ≤ most_t_gates }
+    requires fit { IsCircuit scan.qubits (gates_at (gate_from (state scan).known source) qubits.now) }
+    requires few { t_count_of (state scan).gates + t_count_of (gates_at (gate_from (state scan).known source) qubits.now) ≤ most_t_gates }
     ensures value { IfOk result (λ s. state s ≡ record (state scan.entry) {
       began = true;
-      gates = (state scan.entry).gates ++ gates_at ((state scan.entry).known name.now) qubits.now;
+      gates = (state scan.entry).gates ++ gates_at (gate_from (state scan.entry).known source.entry) qubits.now;
     }) }
     ensures kept { IfOk result (λ s. s.definitions ≡ scan.entry.definitions) }
 {
@@ -127,13 +128,8 @@ fn with_gates<'a>(
         t_count,
         count,
     } = scan;
-    let mut circuit = begun(alloc, n, circuit);
-    push_gates(
-        &mut circuit,
-        size,
-        gates_by_name(&definitions, name),
-        qubits,
-    )?;
+    let mut circuit = circuit_so_far(alloc, n, circuit);
+    push_gates(&mut circuit, size, gates_from(&definitions, source), qubits)?;
     Ok(Scan {
         registers,
         names,
@@ -145,24 +141,25 @@ fn with_gates<'a>(
     })
 }
 
-// The gates of a definition that are kept: all, if it has at most three names.
+/// The gates of a definition that are kept: all, if it has at most three names; there are so many.
 fn gates_kept<'a>(
     alloc: Global,
     list: &Definitions<'a>,
     definition: &Definition<'a>,
+    length: usize,
 ) -> Result<Vec<Gate>, AllocError>
     requires kept { AreKept list.now }
     requires good { list_any (is_bad_entry (known_behind known list.now.list.items) (name_list definition.now.names.items)) (entries definition.now.body.items) ≡ false }
     ensures { IfOk result (λ v. length definition.now.names.items ≤ most_qubits → v.items ≡ (defined (known_behind known list.now.list.items) (name_list definition.now.names.items) (entries definition.now.body.items)).gates) }
 {
     if definition.names.len() <= usize::from(MOST_QUBITS) {
-        gates_defined(alloc, list, definition)
+        gates_defined(alloc, list, definition, length)
     } else {
         Ok(Vec::new(alloc))
     }
 }
 
-// One defined gate more.
+/// One defined gate more.
 fn with_definition<'a>(
     alloc: Global,
     scan: Scan<'a>,
@@ -175,7 +172,7 @@ fn with_definition<'a>(
     ensures value { IfOk result (λ s. state s ≡ declared (state scan.entry) (Some (Define definition.entry.name.now (name_list definition.entry.names.items) (entries definition.entry.body.items)))) }
     ensures kept { IfOk result (λ s. AreKept s.definitions) }
 {
-    let gates = gates_kept(alloc, &scan.definitions, &definition)?;
+    let gates = gates_kept(alloc, &scan.definitions, &definition, size.length)?;
     let mut scan = scan;
     let defined = Defined {
         definition,
@@ -186,7 +183,7 @@ fn with_definition<'a>(
     Ok(scan)
 }
 
-// What a form adds.
+/// What a form adds.
 fn with_form<'a>(
     alloc: Global,
     scan: Scan<'a>,
@@ -209,13 +206,24 @@ fn with_form<'a>(
     match form {
         Some(Form::Qreg(name, digits)) => with_qreg(scan, name, digits),
         Some(Form::Creg(name, _)) => with_creg(scan, name),
-        Some(Form::Apply(name, _)) => with_gates(alloc, scan, name, size, &qubits),
+        Some(Form::Apply(name, _)) => {
+            with_gates(alloc, scan, GateSource::Name(name), size, &qubits)
+        }
+        Some(Form::Turn(rotation, _)) => {
+            with_gates(
+                alloc,
+                scan,
+                GateSource::Angle(rotation.value),
+                size,
+                &qubits,
+            )
+        }
         Some(Form::Define(definition)) => with_definition(alloc, scan, definition, body),
         _ => Ok(scan),
     }
 }
 
-// The scan behind a statement to which no row applies.
+/// The scan behind a statement to which no row applies.
 pub(crate) fn with_statement<'a>(
     alloc: Global,
     scan: Scan<'a>,
@@ -229,5 +237,5 @@ pub(crate) fn with_statement<'a>(
     ensures kept { IfOk result (λ s. AreKept s.definitions) }
 {
     let next = with_form(alloc, scan, statement)?;
-    Ok(counted(next))
+    Ok(count_statement(next))
 }

@@ -2,25 +2,26 @@
 ghost use Rattle.std.specs.Prelude.{◌≡◌, ◌≤◌, ◌++◌, ◌∷◌, [], ℕ, List, Some, cond, OnOk, IfSome, IfNone, option_map};
 ghost use Rattle.std.specs.Str.{bytes_eq};
 ghost use Rattle.qasm_reader.specs.Limits.{most_qubits};
-ghost use Rattle.qasm_reader.specs.Known.{known};
-ghost use Rattle.qasm_reader.specs.View.{size_of, gate_of, gates_of, place_of, IsKept, known_behind, AreKept, IsDefinedAs, known_gate};
+ghost use Rattle.qasm_reader.specs.Known.{known, turned};
+ghost use Rattle.qasm_reader.specs.View.{size_of, gate_of, gate_from, gates_of, place_of, IsKept, known_behind, AreKept, IsDefinedAs, known_gate};
 ghost use Rattle.tc_circuit.specs.Model.{t_count_of};
 
 use crate::circuits::t_count;
-use crate::gates::{Known, Size, known_by_name};
+use crate::gates::{Known, Size, known_by_name, known_by_value};
 use crate::scan::{Defined, Definitions};
+use qasm_angle::AngleValue;
 use std::alloc::AllocError;
 use std::collections::BTreeMap;
 use tc_circuit::Gate;
 
-// The place of the definition of the name, if there is one.
+/// The place of the definition of the name, if there is one.
 fn place_of<'a>(places: &BTreeMap<&'a [u8], usize>, name: &'a [u8]) -> Option<usize>
     ensures { result ≡ place_of places.now name.now }
 {
     places.get(&name).copied()
 }
 
-// The definition of the gate of the name, if it was defined.
+/// The definition of the gate of the name, if it was defined.
 pub(crate) fn definition_of<'b, 'a>(
     list: &'b Definitions<'a>,
     name: &'a [u8],
@@ -35,7 +36,7 @@ pub(crate) fn definition_of<'b, 'a>(
     }
 }
 
-// Notes the place of a name.
+/// Notes the place of a name.
 fn add_place<'a>(
     places: &mut BTreeMap<&'a [u8], usize>,
     name: &'a [u8],
@@ -47,7 +48,7 @@ fn add_place<'a>(
     Ok(())
 }
 
-// One definition more.
+/// One definition more.
 pub(crate) fn push_definition<'a>(
     list: &mut Definitions<'a>,
     defined: Defined<'a>,
@@ -62,6 +63,7 @@ pub(crate) fn push_definition<'a>(
     Ok(())
 }
 
+/// The size of a gate.
 fn size_of(gate: Known) -> Size
     ensures { result ≡ size_of (known_gate gate.entry) }
 {
@@ -72,7 +74,7 @@ fn size_of(gate: Known) -> Size
     }
 }
 
-// The size of the gate of the name, if it is known from the start.
+/// The size of the gate of the name, if it is known from the start.
 fn first_size(name: &[u8]) -> Option<Size>
     ensures { result ≡ option_map size_of (known name.now) }
 {
@@ -82,7 +84,7 @@ fn first_size(name: &[u8]) -> Option<Size>
     }
 }
 
-// The size of the gate of the name, if it is known.
+/// The size of the gate of the name, if it is known.
 pub(crate) fn size_by_name<'a>(list: &Definitions<'a>, name: &'a [u8]) -> Option<Size>
     requires { AreKept list.now }
     ensures { result ≡ option_map size_of (known_behind known list.now.list.items name.now) }
@@ -93,7 +95,7 @@ pub(crate) fn size_by_name<'a>(list: &Definitions<'a>, name: &'a [u8]) -> Option
     }
 }
 
-// The gates of the gate of the name, if it is known from the start.
+/// The gates of the gate of the name, if it is known from the start.
 fn first_gates(name: &[u8]) -> &'static [Gate]
     ensures { result.now ≡ gates_of (known name.now) }
 {
@@ -103,7 +105,7 @@ fn first_gates(name: &[u8]) -> &'static [Gate]
     }
 }
 
-// The gates of the gate of the name, which takes at most three arguments, on the numbers of these; none where it isn't known.
+/// The gates of the gate of the name, which takes at most three arguments, on the numbers of these; none where it isn't known.
 pub(crate) fn gates_by_name<'b, 'a>(list: &'b Definitions<'a>, name: &'a [u8]) -> &'b [Gate]
     requires kept { AreKept list.now }
     requires narrow { IfSome (known_behind known list.now.list.items name.now) (λ g. g.arity ≤ most_qubits) }
@@ -112,5 +114,44 @@ pub(crate) fn gates_by_name<'b, 'a>(list: &'b Definitions<'a>, name: &'a [u8]) -
     match definition_of(list, name) {
         Some(defined) => &defined.gates,
         None => first_gates(name),
+    }
+}
+
+/// The size of the gate of an angle, if it is exact.
+pub(crate) fn size_by_value(value: AngleValue) -> Option<Size>
+    ensures { result ≡ option_map size_of (turned value) }
+{
+    match known_by_value(value) {
+        Some(gate) => Some(size_of(gate)),
+        None => None,
+    }
+}
+
+/// The gates of the gate of an angle; none where it isn't exact.
+pub(crate) fn gates_by_value(value: AngleValue) -> &'static [Gate]
+    ensures { result.now ≡ gates_of (turned value) }
+{
+    match known_by_value(value) {
+        Some(gate) => gate.gates,
+        None => &[],
+    }
+}
+
+/// Where the gates of a gate come from: the name of one that may be known, or an angle.
+#[derive(Clone, Copy)]
+pub(crate) enum GateSource<'a> {
+    Name(&'a [u8]),
+    Angle(AngleValue),
+}
+
+/// The gates of a gate that takes at most three arguments, on the numbers of these; none where it isn't known.
+pub(crate) fn gates_from<'b, 'a>(list: &'b Definitions<'a>, source: GateSource<'a>) -> &'b [Gate]
+    requires kept { AreKept list.now }
+    requires narrow { IfSome (gate_from (known_behind known list.now.list.items) source) (λ g. g.arity ≤ most_qubits) }
+    ensures { result.now ≡ gates_of (gate_from (known_behind known list.now.list.items) source.entry) }
+{
+    match source {
+        GateSource::Name(name) => gates_by_name(list, name),
+        GateSource::Angle(value) => gates_by_value(value),
     }
 }

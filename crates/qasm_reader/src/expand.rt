@@ -10,8 +10,9 @@ use crate::finding::{find_register, small_value};
 use crate::forms::{Argument, Form};
 use crate::scan::{Register, Scan};
 use std::alloc::{AllocError, Global};
+use std::slice::from_ref;
 
-// Adds the qubits of a register.
+/// Adds the qubits of a register.
 fn push_register(found: &mut Vec<u8>, first: u8, size: u8) -> Result<(), AllocError>
     requires { first + size ≤ most_qubits }
     ensures { OnOk result (found.new.items ≡ found.old.items ++ range_with_len first size) }
@@ -22,7 +23,7 @@ fn push_register(found: &mut Vec<u8>, first: u8, size: u8) -> Result<(), AllocEr
     Ok(())
 }
 
-// Adds the qubits that an argument names in a register.
+/// Adds the qubits that an argument names in a register.
 fn push_in(found: &mut Vec<u8>, r: Register, index: Option<&[u8]>) -> Result<(), AllocError>
     ensures { OnOk result (found.new.items ≡ found.old.items ++ qubits_in (register r.entry) (option_map (λ b. b.now) index.entry)) }
 {
@@ -38,7 +39,7 @@ fn push_in(found: &mut Vec<u8>, r: Register, index: Option<&[u8]>) -> Result<(),
     }
 }
 
-// Adds the qubits that an argument names.
+/// Adds the qubits that an argument names.
 fn push_qubits(found: &mut Vec<u8>, list: &[Register], a: &Argument) -> Result<(), AllocError>
     ensures { OnOk result (found.new.items ≡ found.old.items ++ qubits_of (registers list.now) (argument a.now)) }
 {
@@ -48,7 +49,7 @@ fn push_qubits(found: &mut Vec<u8>, list: &[Register], a: &Argument) -> Result<(
     }
 }
 
-// The qubits that the arguments name, one after another.
+/// The qubits that the arguments name, one after another.
 fn qubits_of(alloc: Global, list: &[Register], args: &[Argument]) -> Result<Vec<u8>, AllocError>
     ensures { IfOk result (λ v. v.items ≡ flat_map (qubits_of (registers list.now)) (arguments args.now)) }
 {
@@ -59,7 +60,7 @@ fn qubits_of(alloc: Global, list: &[Register], args: &[Argument]) -> Result<Vec<
     Ok(found)
 }
 
-// The qubits that the arguments of a gate name.
+/// The qubits that the arguments of a gate name.
 pub(crate) fn gate_qubits(
     alloc: Global,
     scan: &Scan,
@@ -69,17 +70,19 @@ pub(crate) fn gate_qubits(
 {
     match found {
         Some(Form::Apply(_, list)) => qubits_of(alloc, &scan.registers, list),
+        Some(Form::Turn(_, argument)) => qubits_of(alloc, &scan.registers, from_ref(argument)),
         _ => Ok(Vec::new(alloc)),
     }
 }
 
+/// Whether a qubit is among the qubits.
 fn holds(qubits: &[u8], q: u8) -> bool
     ensures { result ≡ list_any (λ r. r == q) qubits.now }
 {
     qubits.iter().any(|r| *r == q)
 }
 
-// Whether a qubit stands twice in the list.
+/// Whether a qubit stands twice in the list.
 pub(crate) fn has_twins(qubits: &[u8]) -> bool
     ensures { result ≡ has_twins qubits.now }
 {

@@ -27,9 +27,10 @@ pub enum ReadFault {
         /// | 9 | there are more than 120 T gates |
         /// | 10 | there are more than 4,096 statements behind the header |
         /// | 11 | a statement is one of OpenQASM 2.0 that this reader leaves out |
-        /// | 12 | a register's name was declared before, qubits are declared behind a gate, or a gate's name is known or withheld |
+        /// | 12 | a register's name was declared before, qubits are declared behind a gate, or a gate's name is known, or `u1` or `rz` |
         /// | 17 | a definition's names hold one twice, or an entry of its body holds another name or misuses a gate |
         /// | 18 | a defined gate stands for more than 10,000 gates, or there are more than 100,000 |
+        /// | 20 | an angle is no whole number of eighths of a full turn, which are multiples of pi/4 |
         number: u8,
         /// The place in the text, counted from 0: of the bad byte for number 2, of the first token or the end for number 1, the
         /// end where there is no qubit, and else of the statement's first token.
@@ -39,7 +40,7 @@ pub enum ReadFault {
     Memory,
 }
 
-// The fault of a text that is refused for the reason at the place.
+/// The fault of a text that is refused for the reason at the place.
 pub(crate) fn refused(why: Refusal, place: usize) -> ReadFault
     ensures { result ≡ Refused (number_of why) place }
 {

@@ -9,7 +9,7 @@ use crate::scan::Register;
 use std::alloc::AllocError;
 use std::collections::BTreeSet;
 
-// The number that digits write, or one more than the most qubits where it is greater than these.
+/// The number that digits write, or one more than the most qubits where it is greater than these.
 pub(crate) fn small_value(digits: &[u8]) -> u8
     ensures { result ≡ min (value digits.now) (most_qubits + 1) }
 {
@@ -20,13 +20,14 @@ pub(crate) fn small_value(digits: &[u8]) -> u8
     n
 }
 
+/// Whether the set has the name.
 pub(crate) fn contains_name<'a>(set: &BTreeSet<&'a [u8]>, name: &'a [u8]) -> bool
     ensures { result ≡ names set.now name.now }
 {
     set.contains(&name)
 }
 
-// Adds a name.
+/// Adds a name.
 pub(crate) fn add_name<'a>(set: &mut BTreeSet<&'a [u8]>, name: &'a [u8]) -> Result<(), AllocError>
     ensures { OnOk result ((other : List ℕ) → names set.new other ≡ with_name name.now (names set.old) other) }
 {
@@ -34,7 +35,7 @@ pub(crate) fn add_name<'a>(set: &mut BTreeSet<&'a [u8]>, name: &'a [u8]) -> Resu
     Ok(())
 }
 
-// The register of the name.
+/// The register of the name.
 pub(crate) fn find_register<'a>(list: &[Register<'a>], name: &[u8]) -> Option<Register<'a>>
     ensures { option_map register result ≡ find_register (registers list.now) name.now }
 {

@@ -1,13 +1,15 @@
 // The forms of a statement.
 ghost use Rattle.std.specs.Prelude.{◌≡◌, ℕ, List, [], ◌∷◌, ◌++◌, map, codes, IfOk, IfSome, MatchOption, Option, option_map};
+ghost use Rattle.qasm_angle.specs.Angles.{HasValue};
 ghost use Rattle.std.specs.List.{slice_split};
 ghost use Rattle.qasm_lex.specs.declared.token.Kind.TheVariants.{Comma as comma};
 ghost use Rattle.qasm_reader.specs.Lexemes.{is_kind};
-ghost use Rattle.qasm_reader.specs.Forms.{Define};
-ghost use Rattle.qasm_reader.specs.Parse.{without_last, body_of, indexed_at, argument_at, arguments_at, all_some, names_of, names_at, entry_at, entries_at, entries_behind, both, definition_at, include_at, form_behind, form_in, form_of};
-ghost use Rattle.qasm_reader.specs.View.{lexeme, lexemes, argument, arguments, name_list, entry, entries, form};
+ghost use Rattle.qasm_reader.specs.Forms.{shape, is_rotation, symbols, is_angle, Define, Spin, Turn};
+ghost use Rattle.qasm_reader.specs.Parse.{without_last, body_of, indexed_at, argument_at, arguments_at, all_some, names_of, names_at, around_first, in_parens, rotation_of, name_at, spin_in, turn_in, opens, call_at, gate_at, entry_at, entries_at, entries_behind, both, definition_at, include_at, form_behind, form_in, form_of};
+ghost use Rattle.qasm_reader.specs.View.{lexeme, lexemes, argument, arguments, name_list, rotation, entry, entries, form};
 
 use crate::lexemes::{Lexeme, before, closer, is_digits, is_ident, is_kind, is_name};
+use qasm_angle::{AngleReading, AngleValue};
 use qasm_lex::Kind;
 use std::alloc::{AllocError, Global};
 
@@ -17,14 +19,23 @@ pub(crate) struct Argument<'a> {
     pub index: Option<&'a [u8]>,
 }
 
-// An entry of a gate's body, on names.
+/// A gate of an angle: its name, the tokens of the angle, and what the angle is.
+#[derive(Drop)]
+pub(crate) struct Rotation<'a> {
+    pub name: &'a [u8],
+    pub angle: Vec<Lexeme<'a>>,
+    pub value: AngleValue,
+}
+
+/// An entry of a gate's body, on names.
 #[derive(Drop)]
 pub(crate) enum Entry<'a> {
     Barrier(Vec<&'a [u8]>),
     Call(&'a [u8], Vec<&'a [u8]>),
+    Spin(Rotation<'a>, &'a [u8]),
 }
 
-// A gate's name, its names, and its body.
+/// A gate's name, its names, and its body.
 #[derive(Drop)]
 pub(crate) struct Definition<'a> {
     pub name: &'a [u8],
@@ -39,10 +50,11 @@ pub(crate) enum Form<'a> {
     Creg(&'a [u8], &'a [u8]),
     Barrier(Vec<Argument<'a>>),
     Apply(&'a [u8], Vec<Argument<'a>>),
+    Turn(Rotation<'a>, Argument<'a>),
     Define(Definition<'a>),
 }
 
-// The lexemes without one of the kind at their end, if it is there.
+/// The lexemes without one of the kind at their end, if it is there.
 #[tactic(auto, unfolding(crate::specs::Parse::without_last))]
 fn without_last<'b, 'a>(ws: &'b [Lexeme<'a>], kind: Kind) -> Option<&'b [Lexeme<'a>]>
     ensures { option_map (λ b. lexemes b.now) result ≡ without_last kind (lexemes ws.now) }
@@ -55,7 +67,7 @@ fn without_last<'b, 'a>(ws: &'b [Lexeme<'a>], kind: Kind) -> Option<&'b [Lexeme<
     }
 }
 
-// The statement without the token that ends it, if it has it.
+/// The statement without the token that ends it, if it has it.
 #[tactic(auto, unfolding(crate::specs::Parse::body_of))]
 fn body_of<'b, 'a>(statement: &'b [Lexeme<'a>]) -> Option<&'b [Lexeme<'a>]>
     ensures { option_map (λ b. lexemes b.now) result ≡ body_of (lexemes statement.now) }
@@ -66,7 +78,7 @@ fn body_of<'b, 'a>(statement: &'b [Lexeme<'a>]) -> Option<&'b [Lexeme<'a>]>
     }
 }
 
-// `name [ digits ]`
+/// `name [ digits ]`
 #[tactic(auto, unfolding(crate::specs::Parse::indexed_at))]
 fn indexed_at<'a>(ws: &[Lexeme<'a>]) -> Option<(&'a [u8], &'a [u8])>
     ensures { option_map (λ x. (x.0.now, x.1.now)) result ≡ indexed_at (lexemes ws.now) }
@@ -87,7 +99,7 @@ fn indexed_at<'a>(ws: &[Lexeme<'a>]) -> Option<(&'a [u8], &'a [u8])>
     }
 }
 
-// An argument.
+/// An argument.
 #[tactic(auto, unfolding(crate::specs::Parse::argument_at))]
 fn argument_at<'a>(ws: &[Lexeme<'a>]) -> Option<Argument<'a>>
     ensures { option_map argument result ≡ argument_at (lexemes ws.now) }
@@ -114,7 +126,7 @@ fn argument_at<'a>(ws: &[Lexeme<'a>]) -> Option<Argument<'a>>
     }
 }
 
-// Arguments between commas.
+/// Arguments between commas.
 fn arguments_at<'a>(
     alloc: Global,
     ws: &[Lexeme<'a>],
@@ -137,7 +149,7 @@ fn arguments_at<'a>(
     Ok(Some(found))
 }
 
-// The names of arguments, if none has an index.
+/// The names of arguments, if none has an index.
 fn names_of<'a>(alloc: Global, args: &[Argument<'a>]) -> Result<Option<Vec<&'a [u8]>>, AllocError>
     ensures { IfOk result (λ o. option_map (λ v. name_list v.items) o ≡ names_of (arguments args.now)) }
 {
@@ -151,7 +163,7 @@ fn names_of<'a>(alloc: Global, args: &[Argument<'a>]) -> Result<Option<Vec<&'a [
     Ok(Some(names))
 }
 
-// Names between commas.
+/// Names between commas.
 #[tactic(auto, unfolding(crate::specs::Parse::names_at))]
 fn names_at<'a>(alloc: Global, ws: &[Lexeme<'a>]) -> Result<Option<Vec<&'a [u8]>>, AllocError>
     ensures { IfOk result (λ o. option_map (λ v. name_list v.items) o ≡ names_at (lexemes ws.now)) }
@@ -162,7 +174,200 @@ fn names_at<'a>(alloc: Global, ws: &[Lexeme<'a>]) -> Result<Option<Vec<&'a [u8]>
     }
 }
 
-// An entry of a body, without its Semi.
+/// The front, and what is behind the first token of the rest.
+fn around_first<'b, 'a>(
+    front: &'b [Lexeme<'a>],
+    rest: &'b [Lexeme<'a>],
+) -> Option<(&'b [Lexeme<'a>], &'b [Lexeme<'a>])>
+    ensures { option_map (λ x. (lexemes x.0.now, lexemes x.1.now)) result ≡ around_first (lexemes front.now) (lexemes rest.now) }
+{
+    match rest {
+        [] => None,
+        [_, behind @ ..] => Some((front, behind)),
+    }
+}
+
+/// What is in parentheses, and what is behind them.
+#[tactic(auto, unfolding(crate::specs::Parse::in_parens))]
+fn in_parens<'b, 'a>(ws: &'b [Lexeme<'a>]) -> Option<(&'b [Lexeme<'a>], &'b [Lexeme<'a>])>
+    ensures { option_map (λ x. (lexemes x.0.now, lexemes x.1.now)) result ≡ in_parens (lexemes ws.now) }
+{
+    let (first, rest) = ws.split_first()?;
+    if !is_kind(first, Kind::LeftParen) {
+        return None;
+    }
+    let (front, behind) = rest.split_at(before(rest, Kind::RightParen));
+    around_first(front, behind)
+}
+
+/// Whether it is the name of a gate of an angle.
+pub(crate) fn is_rotation(name: &[u8]) -> bool
+    ensures { result ≡ is_rotation name.now }
+{
+    name == b"u1".as_slice() || name == b"rz".as_slice()
+}
+
+/// What tokens are as an angle.
+fn value_of(ws: &[Lexeme]) -> AngleValue
+    ensures { HasValue (symbols (map shape (lexemes ws.now))) result }
+{
+    let mut reading = AngleReading::new();
+    for w in ws {
+        reading = reading.behind(w.kind, w.bytes);
+    }
+    reading.value()
+}
+
+/// Whether tokens of this value are an angle.
+fn is_angle(value: AngleValue) -> bool
+    ensures { result ≡ is_angle value }
+{
+    match value {
+        AngleValue::NotAngle => false,
+        _ => true,
+    }
+}
+
+/// The same tokens, to be kept.
+fn copy_of<'a>(alloc: Global, ws: &[Lexeme<'a>]) -> Result<Vec<Lexeme<'a>>, AllocError>
+    ensures { IfOk result (λ v. v.items ≡ ws.now) }
+{
+    let mut copy = Vec::with_capacity(alloc, ws.len())?;
+    for w in ws {
+        copy.push(*w)?;
+    }
+    Ok(copy)
+}
+
+/// The gate of an angle that a name and the tokens of its angle are, if they are one.
+#[tactic(auto, unfolding(crate::specs::Parse::rotation_of))]
+fn rotation_of<'a>(
+    alloc: Global,
+    name: &'a [u8],
+    ws: &[Lexeme<'a>],
+) -> Result<Option<Rotation<'a>>, AllocError>
+    ensures { IfOk result (λ o. option_map rotation o ≡ rotation_of name.now (lexemes ws.now)) }
+{
+    if !is_rotation(name) {
+        return Ok(None);
+    }
+    let value = value_of(ws);
+    if !is_angle(value) {
+        return Ok(None);
+    }
+    let angle = copy_of(alloc, ws)?;
+    Ok(Some(Rotation { name, angle, value }))
+}
+
+/// A name alone.
+#[tactic(auto, unfolding(crate::specs::Parse::name_at))]
+fn name_at<'a>(ws: &[Lexeme<'a>]) -> Option<&'a [u8]>
+    ensures { option_map (λ b. b.now) result ≡ name_at (lexemes ws.now) }
+{
+    match ws {
+        [name] => {
+            if is_name(name) {
+                Some(name.bytes)
+            } else {
+                None
+            }
+        }
+        _ => None,
+    }
+}
+
+/// Whether a parenthesis stands first.
+#[tactic(auto, unfolding(crate::specs::Parse::opens))]
+fn opens(ws: &[Lexeme]) -> bool
+    ensures { result ≡ opens (lexemes ws.now) }
+{
+    match ws {
+        [] => false,
+        [first, ..] => is_kind(first, Kind::LeftParen),
+    }
+}
+
+/// The entry of a gate of an angle on a name, if both are there.
+fn spin<'a>(found: Option<Rotation<'a>>, name: Option<&'a [u8]>) -> Option<Entry<'a>>
+    ensures { option_map entry result ≡ both Spin (option_map rotation found.entry) (option_map (λ b. b.now) name.entry) }
+{
+    match (found, name) {
+        (Some(found), Some(name)) => Some(Entry::Spin(found, name)),
+        _ => None,
+    }
+}
+
+/// The form of a gate of an angle on an argument, if both are there.
+fn turn<'a>(found: Option<Rotation<'a>>, target: Option<Argument<'a>>) -> Option<Form<'a>>
+    ensures { option_map form result ≡ both Turn (option_map rotation found.entry) (option_map argument target.entry) }
+{
+    match (found, target) {
+        (Some(found), Some(target)) => Some(Form::Turn(found, target)),
+        _ => None,
+    }
+}
+
+/// The entry of a gate of an angle behind its name.
+fn spin_at<'a>(
+    alloc: Global,
+    name: &'a [u8],
+    ws: &[Lexeme<'a>],
+) -> Result<Option<Entry<'a>>, AllocError>
+    ensures { IfOk result (λ o. option_map entry o ≡ spin_in name.now (in_parens (lexemes ws.now))) }
+{
+    let Some((angle, rest)) = in_parens(ws) else {
+        return Ok(None);
+    };
+    let found = rotation_of(alloc, name, angle)?;
+    Ok(spin(found, name_at(rest)))
+}
+
+/// The form of a gate of an angle behind its name.
+fn turn_at<'a>(
+    alloc: Global,
+    name: &'a [u8],
+    ws: &[Lexeme<'a>],
+) -> Result<Option<Form<'a>>, AllocError>
+    ensures { IfOk result (λ o. option_map form o ≡ turn_in name.now (in_parens (lexemes ws.now))) }
+{
+    let Some((angle, rest)) = in_parens(ws) else {
+        return Ok(None);
+    };
+    let found = rotation_of(alloc, name, angle)?;
+    Ok(turn(found, argument_at(rest)))
+}
+
+/// An entry behind a name.
+#[tactic(auto, unfolding(crate::specs::Parse::call_at))]
+fn call_at<'a>(
+    alloc: Global,
+    name: &'a [u8],
+    ws: &[Lexeme<'a>],
+) -> Result<Option<Entry<'a>>, AllocError>
+    ensures { IfOk result (λ o. option_map entry o ≡ call_at name.now (lexemes ws.now)) }
+{
+    if opens(ws) {
+        return spin_at(alloc, name, ws);
+    }
+    Ok(names_at(alloc, ws)?.map(|list| Entry::Call(name, list)))
+}
+
+/// A form behind a name.
+#[tactic(auto, unfolding(crate::specs::Parse::gate_at))]
+fn gate_at<'a>(
+    alloc: Global,
+    name: &'a [u8],
+    ws: &[Lexeme<'a>],
+) -> Result<Option<Form<'a>>, AllocError>
+    ensures { IfOk result (λ o. option_map form o ≡ gate_at name.now (lexemes ws.now)) }
+{
+    if opens(ws) {
+        return turn_at(alloc, name, ws);
+    }
+    Ok(arguments_at(alloc, ws)?.map(|list| Form::Apply(name, list)))
+}
+
+/// An entry of a body, without its Semi.
 #[tactic(auto, unfolding(crate::specs::Parse::entry_at))]
 fn entry_at<'a>(alloc: Global, ws: &[Lexeme<'a>]) -> Result<Option<Entry<'a>>, AllocError>
     ensures { IfOk result (λ o. option_map entry o ≡ entry_at (lexemes ws.now)) }
@@ -174,12 +379,12 @@ fn entry_at<'a>(alloc: Global, ws: &[Lexeme<'a>]) -> Result<Option<Entry<'a>>, A
         return Ok(names_at(alloc, rest)?.map(|list| Entry::Barrier(list)));
     }
     if is_name(first) {
-        return Ok(names_at(alloc, rest)?.map(|list| Entry::Call(first.bytes, list)));
+        return call_at(alloc, first.bytes, rest);
     }
     Ok(None)
 }
 
-// The entries of a body.
+/// The entries of a body.
 fn entries_at<'a>(alloc: Global, ws: &[Lexeme<'a>]) -> Result<Option<Vec<Entry<'a>>>, AllocError>
     ensures { IfOk result (λ o. option_map (λ v. entries v.items) o ≡ entries_at (lexemes ws.now)) }
 {
@@ -199,7 +404,7 @@ fn entries_at<'a>(alloc: Global, ws: &[Lexeme<'a>]) -> Result<Option<Vec<Entry<'
     Ok(Some(found))
 }
 
-// The entries behind a brace, if it is there.
+/// The entries behind a brace, if it is there.
 fn entries_behind<'a>(
     alloc: Global,
     ws: &[Lexeme<'a>],
@@ -212,6 +417,7 @@ fn entries_behind<'a>(
     }
 }
 
+/// The form of a definition, if its names and its body are there.
 fn defining<'a>(
     name: &'a [u8],
     names: Option<Vec<&'a [u8]>>,
@@ -225,7 +431,7 @@ fn defining<'a>(
     }
 }
 
-// The definition behind its word.
+/// The definition behind its word.
 #[tactic(auto, unfolding(crate::specs::Parse::definition_at))]
 fn definition_at<'a>(alloc: Global, ws: &[Lexeme<'a>]) -> Result<Option<Form<'a>>, AllocError>
     ensures { IfOk result (λ o. option_map form o ≡ definition_at (lexemes ws.now)) }
@@ -242,6 +448,7 @@ fn definition_at<'a>(alloc: Global, ws: &[Lexeme<'a>]) -> Result<Option<Form<'a>
     Ok(defining(first.bytes, names, body))
 }
 
+/// The form of an include behind its word.
 #[tactic(auto, unfolding(crate::specs::Parse::include_at))]
 fn include_at<'a>(ws: &[Lexeme<'a>]) -> Option<Form<'a>>
     ensures { option_map form result ≡ include_at (lexemes ws.now) }
@@ -258,7 +465,7 @@ fn include_at<'a>(ws: &[Lexeme<'a>]) -> Option<Form<'a>>
     }
 }
 
-// The form of a statement without the token that ends it.
+/// The form of a statement without the token that ends it.
 #[tactic(auto, unfolding(crate::specs::Parse::form_behind))]
 fn form_behind<'a>(
     alloc: Global,
@@ -283,12 +490,12 @@ fn form_behind<'a>(
         return Ok(arguments_at(alloc, ws)?.map(|list| Form::Barrier(list)));
     }
     if is_name(first) {
-        return Ok(arguments_at(alloc, ws)?.map(|list| Form::Apply(first.bytes, list)));
+        return gate_at(alloc, first.bytes, ws);
     }
     Ok(None)
 }
 
-// The form of a statement, if it has one.
+/// The form of a statement, if it has one.
 #[tactic(auto, unfolding(crate::specs::Parse::form_of, crate::specs::Parse::form_in))]
 pub(crate) fn form_of<'a>(
     alloc: Global,

@@ -15,6 +15,7 @@ pub(crate) struct Lexeme<'a> {
     pub place: usize,
 }
 
+/// The token with its bytes.
 pub(crate) fn lexeme_of<'a>(text: &'a [u8], token: &Token) -> Lexeme<'a>
     requires { IsWithin text.now token.now }
     ensures { lexeme result ≡ lexeme_of text.now token.now }
@@ -26,7 +27,7 @@ pub(crate) fn lexeme_of<'a>(text: &'a [u8], token: &Token) -> Lexeme<'a>
     }
 }
 
-// The lexemes of the tokens.
+/// The lexemes of the tokens.
 pub(crate) fn lexemes_of<'a>(
     alloc: Global,
     text: &'a [u8],
@@ -42,26 +43,28 @@ pub(crate) fn lexemes_of<'a>(
     Ok(lexemes)
 }
 
+/// Whether it is a token of the kind.
 pub(crate) fn is_kind(w: &Lexeme, kind: Kind) -> bool
     ensures { result ≡ is_kind kind (lexeme w.now) }
 {
     w.kind == kind
 }
 
-// Whether it is the Ident with these bytes.
+/// Whether it is the Ident with these bytes.
 pub(crate) fn is_ident(w: &Lexeme, text: &[u8]) -> bool
     ensures { result ≡ is_ident text.now (lexeme w.now) }
 {
     is_kind(w, Kind::Ident) && w.bytes == text
 }
 
-// Whether it is the Number with these bytes.
+/// Whether it is the Number with these bytes.
 pub(crate) fn is_number(w: &Lexeme, text: &[u8]) -> bool
     ensures { result ≡ (is_kind Kind.Number (lexeme w.now) && bytes_eq (lexeme w.now).bytes text.now) }
 {
     is_kind(w, Kind::Number) && w.bytes == text
 }
 
+/// Whether it is one of the reserved words, which are no names.
 #[tactic(auto, unfolding(crate::specs::Lexemes::is_reserved))]
 fn is_reserved(bytes: &[u8]) -> bool
     ensures { result ≡ is_reserved bytes.now }
@@ -81,26 +84,28 @@ fn is_reserved(bytes: &[u8]) -> bool
         || bytes == b"pi".as_slice()
 }
 
+/// Whether it is a name.
 pub(crate) fn is_name(w: &Lexeme) -> bool
     ensures { result ≡ is_name (lexeme w.now) }
 {
     is_kind(w, Kind::Ident) && !is_reserved(w.bytes)
 }
 
-// Whether no byte is a point.
+/// Whether no byte is a point.
 fn is_whole(bytes: &[u8]) -> bool
     ensures { result ≡ is_whole bytes.now }
 {
     bytes.iter().all(|b| b.is_ascii_digit())
 }
 
+/// Whether it is a number without a point.
 pub(crate) fn is_digits(w: &Lexeme) -> bool
     ensures { result ≡ is_digits (lexeme w.now) }
 {
     is_kind(w, Kind::Number) && is_whole(w.bytes)
 }
 
-// The kind of the token that ends a statement with this first token.
+/// The kind of the token that ends a statement with this first token.
 pub(crate) fn closer(first: &Lexeme) -> Kind
     ensures { result ≡ closer (lexeme first.now) }
 {
@@ -111,7 +116,7 @@ pub(crate) fn closer(first: &Lexeme) -> Kind
     }
 }
 
-// How many lexemes at the front are of other kinds.
+/// How many lexemes at the front are of other kinds.
 fn others(ws: &[Lexeme], kind: Kind) -> usize
     ensures value { result ≡ prefix_len (λ w. not (is_kind kind (lexeme w))) ws.now }
     ensures within { result ≤ length ws.now }
@@ -119,7 +124,7 @@ fn others(ws: &[Lexeme], kind: Kind) -> usize
     ws.iter().take_while(|w| !is_kind(w, kind)).count()
 }
 
-// How many lexemes stand before the first of the kind.
+/// How many lexemes stand before the first of the kind.
 pub(crate) fn before(ws: &[Lexeme], kind: Kind) -> usize
     ensures value { result ≡ position_or_len (is_kind kind) (lexemes ws.now) }
     ensures within { result ≤ length ws.now }

@@ -1,8 +1,8 @@
 //! Reads a text of OpenQASM 2.0 (Cross, Bishop, Smolin and Gambetta, 2017) as a circuit.
 //!
 //! A text is the header `OPENQASM 2.0;` and statements, each up to its `;`: an include of `qelib1.inc`, a register of qubits or of
-//! bits, a barrier, or a known gate on arguments; or a definition of a gate without parameters, up to its `}`, which makes this
-//! gate known. [`read`] gives the circuit of all its gates, or the number of the first reason
+//! bits, a barrier, a known gate on arguments, or `u1` or `rz` of a multiple of pi/4 on an argument; or a definition of a gate without
+//! parameters, up to its `}`, which makes this gate known. [`read`] gives the circuit of all its gates, or the number of the first reason
 //! for which the text is refused, with its place. [`one_reading`] says that each text has exactly one of the two.
 //!
 //! The reader is more lenient than the standard: gate names are known without the include, which may stand anywhere and more than

@@ -10,7 +10,7 @@ use crate::lexemes::{Lexeme, is_ident, lexemes_of};
 use qasm_lex::lex;
 use std::alloc::Global;
 
-// Keeps the Ident tokens `OPENQASM`.
+/// Keeps the Ident tokens `OPENQASM`.
 fn keep_openings(list: &mut Vec<Lexeme>)
     ensures { lexemes list.new.items ≡ openings (lexemes list.old.items) }
 {

@@ -18,8 +18,12 @@ use qasm_lex::{Kind, Token, lex};
 use std::alloc::Global;
 use tc_circuit::Circuit;
 
-// The scan behind a statement to which no row applies.
-fn taken<'a>(alloc: Global, scan: Scan<'a>, ws: &[Lexeme<'a>]) -> Result<Scan<'a>, ReadFault>
+/// The scan behind a statement to which no row applies.
+fn take_statement<'a>(
+    alloc: Global,
+    scan: Scan<'a>,
+    ws: &[Lexeme<'a>],
+) -> Result<Scan<'a>, ReadFault>
     requires some { 0 < length ws.now }
     requires kept { AreKept scan.definitions }
     ensures ok { IfOk result (Takes (state scan.entry) (lexemes ws.now)) }
@@ -33,7 +37,7 @@ fn taken<'a>(alloc: Global, scan: Scan<'a>, ws: &[Lexeme<'a>]) -> Result<Scan<'a
     Ok(next)
 }
 
-// How many tokens stand before the first of the kind.
+/// How many tokens stand before the first of the kind.
 fn len_before(tokens: &[Token], kind: Kind) -> usize
     ensures value { result ≡ prefix_len (λ t. not (is_same_kind kind t.kind)) tokens.now }
     ensures within { result ≤ length tokens.now }
@@ -41,7 +45,7 @@ fn len_before(tokens: &[Token], kind: Kind) -> usize
     tokens.iter().take_while(|t| t.kind != kind).count()
 }
 
-// How many tokens there are up to the first of the kind, with it, or all of them.
+/// How many tokens there are up to the first of the kind, with it, or all of them.
 fn len_up_to(tokens: &[Token], kind: Kind) -> usize
     ensures value { result ≡ len_up_to kind tokens.now }
     ensures within { result ≤ length tokens.now }
@@ -51,7 +55,7 @@ fn len_up_to(tokens: &[Token], kind: Kind) -> usize
     if n < tokens.len() { n + 1 } else { n }
 }
 
-// How many tokens the first statement has.
+/// How many tokens the first statement has.
 fn first_len(text: &[u8], tokens: &[Token]) -> usize
     requires { All (IsWithin text.now) tokens.now }
     ensures value { result ≡ first_len text.now tokens.now }
@@ -64,7 +68,7 @@ fn first_len(text: &[u8], tokens: &[Token]) -> usize
     }
 }
 
-// The scan behind all statements.
+/// The scan behind all statements.
 fn scan_all<'a>(alloc: Global, text: &'a [u8], tokens: &[Token]) -> Result<Scan<'a>, ReadFault>
     requires { All (IsWithin text.now) tokens.now }
     ensures ok { IfOk result (Scans (map (lexeme_of text.now) tokens.now)) }
@@ -75,13 +79,13 @@ fn scan_all<'a>(alloc: Global, text: &'a [u8], tokens: &[Token]) -> Result<Scan<
     'statements: while at < tokens.len() {
         let size = first_len(text, &tokens[at..]);
         let statement = lexemes_of(alloc, text, &tokens[at..at + size])?;
-        scan = taken(alloc, scan, &statement)?;
+        scan = take_statement(alloc, scan, &statement)?;
         at += size;
     }
     Ok(scan)
 }
 
-// The tokens behind the header, if it is there.
+/// The tokens behind the header, if it is there.
 #[tactic(auto, unfolding(crate::specs::Parse::headed_at))]
 fn behind_header<'b>(text: &[u8], tokens: &'b [Token]) -> Option<&'b [Token]>
     requires { All (IsWithin text.now) tokens.now }
@@ -103,7 +107,7 @@ fn behind_header<'b>(text: &[u8], tokens: &'b [Token]) -> Option<&'b [Token]>
     }
 }
 
-// Where the first token begins, or the end of the text.
+/// Where the first token begins, or the end of the text.
 fn first_place(text: &[u8], tokens: &[Token]) -> usize
     ensures { result ≡ place_of (length text.now) (map (lexeme_of text.now) tokens.now) }
 {
@@ -113,7 +117,7 @@ fn first_place(text: &[u8], tokens: &[Token]) -> usize
     }
 }
 
-// The circuit behind all statements, if there is a qubit.
+/// The circuit behind all statements, if there is a qubit.
 fn circuit_of(alloc: Global, scan: Scan) -> Option<Circuit>
     ensures none { IfNone result ((state scan.entry).qubits ≡ 0) }
     ensures some { IfSome result (λ c. 0 < c.qubits) }
@@ -141,7 +145,7 @@ fn circuit_of(alloc: Global, scan: Scan) -> Option<Circuit>
 ///
 /// [`ReadFault::Refused`] with the number of the first reason for which the text is refused and its place, exactly where there is
 /// one ([`one_reading`](crate::one_reading)). A bad byte comes before a missing header, this before a statement, an earlier
-/// statement before a later one, and at one statement the reasons come in the order 3, 11, 12, 17, 4, 5, 6, 7, 8, 9, 18, 10;
+/// statement before a later one, and at one statement the reasons come in the order 3, 11, 12, 17, 4, 20, 5, 6, 7, 8, 9, 18, 10;
 /// last comes 8 for a text without qubits.
 pub fn read(alloc: Global, text: &[u8]) -> Result<Circuit, ReadFault>
     ensures ok { IfOk result (Reads text.now) }

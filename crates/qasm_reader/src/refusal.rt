@@ -1,6 +1,6 @@
 // The reasons for which a text is refused.
 
-// Why a text is refused; the number of a reason is its discriminant.
+/// Why a text is refused; the number of a reason is its discriminant.
 #[derive(Clone, Copy)]
 pub(crate) enum Refusal {
     // The text doesn't begin with the header.
@@ -25,19 +25,21 @@ pub(crate) enum Refusal {
     TooLong = 10,
     // A statement of OpenQASM 2.0 that this reader leaves out.
     NotInProfile = 11,
-    // A register's name was declared before, qubits are declared behind a gate, or a gate's name is known or withheld.
+    // A register's name was declared before, qubits are declared behind a gate, or a gate's name is known, or `u1` or `rz`.
     TwoNames = 12,
     // A definition's names hold one twice, or an entry of its body holds another name or misuses a gate.
     Body = 17,
     // A defined gate stands for more than 10,000 gates, or there are more than 100,000.
     TooManyGates = 18,
+    // An angle is no whole number of eighths of a full turn.
+    Angle = 20,
 }
 
 impl Refusal {
     ghost use Rattle.std.specs.Prelude.{◌≡◌};
     ghost use Rattle.qasm_reader.specs.Refusals.{number_of};
 
-    // The number of the reason, 1 to 12, 17 or 18.
+    /// The number of the reason, 1 to 12, 17, 18 or 20.
     pub(crate) fn number(self) -> u8
         ensures { result ≡ number_of self }
     {

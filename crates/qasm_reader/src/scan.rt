@@ -10,7 +10,7 @@ use crate::gates::Size;
 use std::collections::{BTreeMap, BTreeSet};
 use tc_circuit::{Circuit, Gate};
 
-// A register of qubits: its first qubit, and how many it has.
+/// A register of qubits: its first qubit, and how many it has.
 #[derive(Clone, Copy)]
 pub(crate) struct Register<'a> {
     pub name: &'a [u8],
@@ -19,8 +19,8 @@ pub(crate) struct Register<'a> {
     ghost small: { first + size ≤ most_qubits },
 }
 
-// A definition with the size of its gate, and the gates that this stands for on the places of its names. These are kept where the
-// gate can be applied to qubits, which takes at most three names.
+/// A definition with the size of its gate, and the gates that this stands for on the places of its names. These are kept where the
+/// gate can be applied to qubits, which takes at most three names.
 #[derive(Drop)]
 pub(crate) struct Defined<'a> {
     pub definition: Definition<'a>,
@@ -28,14 +28,14 @@ pub(crate) struct Defined<'a> {
     pub gates: Vec<Gate>,
 }
 
-// The definitions so far in order, and the places of their names among them.
+/// The definitions so far in order, and the places of their names among them.
 #[derive(Drop)]
 pub(crate) struct Definitions<'a> {
     pub list: Vec<Defined<'a>>,
     pub places: BTreeMap<&'a [u8], usize>,
 }
 
-// There is a circuit once a gate was applied; its gates are those of the statements so far, and `t_count` counts their T gates.
+/// There is a circuit once a gate was applied; its gates are those of the statements so far, and `t_count` counts their T gates.
 #[derive(Drop)]
 pub(crate) struct Scan<'a> {
     pub registers: Vec<Register<'a>>,

@@ -6,7 +6,7 @@ ghost use Rattle.qasm_reader.specs.Parse.{form_of};
 ghost use Rattle.qasm_reader.specs.View.{lexemes, form, size_of, gate_defined, counted_size, IsBehind, AreKept, state};
 
 use crate::bodies::{NOTHING, body_size, has_bad_body};
-use crate::definitions::size_by_name;
+use crate::definitions::{size_by_name, size_by_value};
 use crate::expand::gate_qubits;
 use crate::forms::{Form, form_of};
 use crate::gates::Size;
@@ -14,9 +14,9 @@ use crate::lexemes::Lexeme;
 use crate::scan::Scan;
 use std::alloc::{AllocError, Global};
 
-// A statement: its tokens, the form that it has, if it has one, the size of the gate that the form applies, if it is known, the
-// qubits that the gate's arguments name, one after another, and of the gate that the form defines, whether its body is bad, and
-// its size, where gates are counted up to one more than the most.
+/// A statement: its tokens, the form that it has, if it has one, the size of the gate that the form applies, if it is known, the
+/// qubits that the gate's arguments name, one after another, and of the gate that the form defines, whether its body is bad, and
+/// its size, where gates are counted up to one more than the most.
 #[derive(Drop)]
 pub(crate) struct Statement<'b, 'a> {
     pub lexemes: &'b [Lexeme<'a>],
@@ -27,18 +27,19 @@ pub(crate) struct Statement<'b, 'a> {
     pub body: Size,
 }
 
-// The size of the gate that a form applies, if it is known.
+/// The size of the gate that a form applies, if it is known.
 fn size_in<'a>(scan: &Scan<'a>, found: &Option<Form<'a>>) -> Option<Size>
     requires { AreKept scan.now.definitions }
     ensures { result ≡ option_map size_of (gate_in (state scan.now).known (option_map form found.now)) }
 {
     match found {
         Some(Form::Apply(name, _)) => size_by_name(&scan.definitions, name),
+        Some(Form::Turn(rotation, _)) => size_by_value(rotation.value),
         _ => None,
     }
 }
 
-// Whether a form defines a gate with a bad body.
+/// Whether a form defines a gate with a bad body.
 fn bad_body_in<'a>(
     alloc: Global,
     scan: &Scan<'a>,
@@ -53,7 +54,7 @@ fn bad_body_in<'a>(
     }
 }
 
-// The size of the gate that a form defines.
+/// The size of the gate that a form defines.
 fn body_in<'a>(scan: &Scan<'a>, found: &Option<Form<'a>>) -> Size
     requires { AreKept scan.now.definitions }
     ensures { result ≡ counted_size (gate_defined (state scan.now) (option_map form found.now)) }
@@ -64,7 +65,7 @@ fn body_in<'a>(scan: &Scan<'a>, found: &Option<Form<'a>>) -> Size
     }
 }
 
-// The statement of these tokens, behind what was scanned.
+/// The statement of these tokens, behind what was scanned.
 pub(crate) fn statement_behind<'b, 'a>(
     alloc: Global,
     scan: &Scan<'a>,

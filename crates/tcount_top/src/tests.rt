@@ -635,3 +635,74 @@ fn codes(rt: HostRuntime) {
         assert_eq!(rt; status.code(), code);
     }
 }
+
+// Gates of an angle, as statements and in bodies, and what is printed for them.
+#[test]
+fn turns(rt: HostRuntime) -> Result<(), Fail> {
+    let rows = [
+        (
+            "1",
+            "u1(3*pi/4) q[0];\n",
+            "// t-count 1\n// word Z\nOPENQASM 2.0;\ninclude \"qelib1.inc\";\nqreg q[1];\ns q[0];\nt q[0];\n",
+        ),
+        (
+            "0",
+            "rz(-pi/2) q;\n",
+            "// t-count 0\n// word\nOPENQASM 2.0;\ninclude \"qelib1.inc\";\nqreg q[1];\ns q[0];\ns q[0];\ns q[0];\n",
+        ),
+        (
+            "1",
+            "gate g a { u1(pi/4) a; }\ng q[0];\n",
+            "// t-count 1\n// word Z\nOPENQASM 2.0;\ninclude \"qelib1.inc\";\nqreg q[1];\nt q[0];\n",
+        ),
+    ];
+    for (bound, line, bytes) in rows {
+        let text = repeated(rt.alloc(), "OPENQASM 2.0;\nqreg q[1];\n", line, 1)?;
+        let (status, written) = answer(&rt, rt.alloc(), &["synth", bound, "1"], &text, &OpenWay)?;
+        assert_eq!(rt; status, Status::Found, "{line:?}");
+        assert!(rt; written.as_slice() == bytes.as_bytes(), "{line:?}");
+    }
+    Ok(())
+}
+
+// What is no turn by a whole multiple of pi/4, and the refusal.
+#[test]
+fn refused_turns(rt: HostRuntime) -> Result<(), Fail> {
+    let rows = [
+        ("u1(pi/8) q[0];\n", "refused 20 at 25\n"),
+        ("rz(pi/0) q[0];\n", "refused 20 at 25\n"),
+        ("gate g a { u1(pi/8) b; }\n", "refused 17 at 25\n"),
+        ("u1(0.785) q[0];\n", "refused 11 at 25\n"),
+        ("rz(1) q[0];\n", "refused 11 at 25\n"),
+        ("rz(pi/4) q[0],q[0];\n", "refused 11 at 25\n"),
+    ];
+    for (line, bytes) in rows {
+        let text = repeated(rt.alloc(), "OPENQASM 2.0;\nqreg q[1];\n", line, 1)?;
+        let (status, written) = answer(&rt, rt.alloc(), &["synth", "0", "1"], &text, &OpenWay)?;
+        assert_eq!(rt; status, Status::Refused, "{line:?}");
+        assert!(rt; written.as_slice() == bytes.as_bytes(), "{line:?}");
+    }
+    Ok(())
+}
+
+// A controlled h takes two T gates.
+#[test]
+fn controlled_h(rt: HostRuntime) -> Result<(), Fail> {
+    let text = b"OPENQASM 2.0;\nqreg q[2];\nch q[0],q[1];\n".as_slice();
+    let (status, bytes) = answer(&rt, rt.alloc(), &["synth", "2", "1"], text, &OpenWay)?;
+    assert_eq!(rt; status, Status::Found);
+    assert!(rt; bytes.starts_with(b"// t-count 2\n// word YI YZ\n"));
+    assert!(rt; are_same(&rt, rt.alloc(), text, &bytes)?);
+    Ok(())
+}
+
+// A controlled swap takes seven.
+#[test]
+fn controlled_swap(rt: HostRuntime) -> Result<(), Fail> {
+    let text = b"OPENQASM 2.0;\nqreg q[3];\ncswap q[0],q[1],q[2];\n".as_slice();
+    let (status, bytes) = answer(&rt, rt.alloc(), &["synth", "7", "4"], text, &OpenWay)?;
+    assert_eq!(rt; status, Status::Found);
+    assert!(rt; bytes.starts_with(b"// t-count 7\n"));
+    assert!(rt; are_same(&rt, rt.alloc(), text, &bytes)?);
+    Ok(())
+}

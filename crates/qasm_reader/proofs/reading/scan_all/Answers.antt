@@ -11,10 +11,10 @@ use Rattle.qasm_reader.specs.Run.{stated, Takes, IsRowFault}
 use Rattle.qasm_reader.specs.View.{lexemes, state}
 use Rattle.qasm_reader.proofs.Cut.{of, scan_step, nothing, fault_from}
 use Rattle.qasm_reader.proofs.reading.scan_all.Goals as goal
-use Rattle.qasm_reader.proofs.reading.scan_all.Goals.{After-taken}
+use Rattle.qasm_reader.proofs.reading.scan_all.Goals.{After-take_statement}
 
 -- the statement that was taken, as the tokens say it
-same : (c : After-taken) → lexemes c.deref.result.now ≡ of c.args.text.now (take (c.statements.at + c.first_len-size.result - c.statements.at) (drop c.statements.at c.args.tokens.now))
+same : (c : After-take_statement) → lexemes c.deref.result.now ≡ of c.args.text.now (take (c.statements.at + c.first_len-size.result - c.statements.at) (drop c.statements.at c.args.tokens.now))
 same c = ap lexemes c.deref.ensures.value ∙ c.in_ok-statement.ensures
 
 pub returns-in_err-scan-clause-err : goal.returns-in_err-scan-clause-err
@@ -26,7 +26,7 @@ returns-in_err-scan-clause-err c =
     let s = state c.statements.scan in
     let p = of text (take (at + size - at) (drop at ts)) in
     let row : IsRowFault s p c.in_err-scan.field-0.0 =
-    subst (λ (ws : List Lexeme). IsRowFault s ws c.in_err-scan.field-0.0) (same (goal.at.returns-in_err-scan-clause-err c).After-taken) c.in_err-scan.ensures.err in
+    subst (λ (ws : List Lexeme). IsRowFault s ws c.in_err-scan.field-0.0) (same (goal.at.returns-in_err-scan-clause-err c).After-take_statement) c.in_err-scan.ensures.err in
     let from = c.statements.invariant.rest ∙ scan_step text ts at size s c.statements-test.true c.first_len-size.ensures.value in
     let e = err_from_is_err_and c.from_residual-in_err-scan.result c.from_residual-in_err-scan.ensures.1 in
     rw (e.1, e.2) (fault_from (of text ts) s p _ c.in_err-scan.field-0.0 from row)
@@ -40,7 +40,7 @@ statements-preserved c =
     let s = state c.statements.scan in
     let p = of text (take (at + size - at) (drop at ts)) in
     let rest = stated (statements (of text (drop (at + size) ts))) in
-    let takes : Takes s p c.in_ok-scan.scan = subst (λ (ws : List Lexeme). Takes s ws c.in_ok-scan.scan) (same (goal.at.statements-preserved c).After-taken) c.in_ok-scan.ensures.ok in
+    let takes : Takes s p c.in_ok-scan.scan = subst (λ (ws : List Lexeme). Takes s ws c.in_ok-scan.scan) (same (goal.at.statements-preserved c).After-take_statement) c.in_ok-scan.ensures.ok in
     record {
       within = omega (arith, c.first_len-size.ensures.within, length-take (length ts - at) (drop at ts), length-drop at ts, c.statements.invariant.within);
       rest = c.statements.invariant.rest

@@ -9,7 +9,7 @@ use Rattle.qasm_reader.proofs.Grammar.{has_form}
 use Rattle.qasm_reader.proofs.Registers.{inside_is}
 use Rattle.qasm_reader.proofs.Kept.{kept_sound}
 use Rattle.qasm_reader.proofs.Takeable.{short_before, takeable}
-use Rattle.qasm_reader.proofs.reading.taken.Goals as goal
+use Rattle.qasm_reader.proofs.reading.take_statement.Goals as goal
 
 -- a statement has the form that is computed from its lexemes
 has : (p : CodeStatement) (ws : List Lexeme) → lexemes p.lexemes.now ≡ ws → option_map form p.form ≡ form_of ws → HasForm (lexemes p.lexemes.now) (option_map form p.form)
