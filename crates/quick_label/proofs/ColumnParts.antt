@@ -1,35 +1,21 @@
--- Columns without zeros: a cell more at the end of one, and a column more behind the others.
-use Rattle.std.proofs.Common.{◌≡◌, ◌↔◌, ℕ, ◌+◌, ◌-◌, ◌*◌, ◌^◌, ◌<◌, ◌≤◌, Bool, true, false, IsTrue, List, length, take, drop, slice_index, refl, ap, sym, ◌∙◌, subst, inl, inr, arith}
-use Rattle.std.specs.Prelude.{not}
+-- Runs of numbers: a number more at the end of one, and a column more behind the others.
+use Rattle.std.proofs.Common.{◌≡◌, ℕ, zero, suc, ◌+◌, ◌-◌, ◌*◌, ◌<◌, ◌≤◌, Bool, true, false, List, [], ◌∷◌, length, slice_index, slice_index_or, refl, ap, sym, ◌∙◌, subst, inl, inr, arith}
+use Rattle.std.specs.Prelude.{ℤ, pos, ◌+ℤ◌, ◌*ℤ◌, not}
 use Rattle.std.specs.Int.{from_bool}
 use Rattle.std.proofs.Math.ListN.{set, length-set}
-use Rattle.std.proofs.lemmas.List.{get_or-set_same, get_or-set_other, get_or-take, get_or-drop, length-take-le, length-drop}
+use Rattle.std.proofs.lemmas.List.{get_or-set_same, get_or-set_other}
 use Rattle.std.proofs.lemmas.Grind.{get_or-set_at}
-use Rattle.std.proofs.lemmas.Bool.{cases_eq}
-use Rattle.tc_ring.specs.Root2.{surd_of}
-use Rattle.tc_ring.specs.Surds.{SurdWithin, zero_surd}
-use Rattle.tc_ring.specs.declared.root2.Root2.{Root2}
+use Rattle.std.proofs.lemmas.Bool.{cases_eq, true≢false}
+use Rattle.ring_laws.specs.Matrix.{sum}
+use Rattle.ring_laws.specs.Ring.{integers}
+use Rattle.ring_laws.proofs.Integers.{integers_laws}
+use Rattle.ring_laws.proofs.Reader.{ring, reads}
+use Rattle.ring_laws.proofs.Sums.{sum_cong}
 use Rattle.channel_rep.specs.Tables.{SurdTable}
-use Rattle.channel_rep.specs.Cells.{cell_of, no_cell}
-use Rattle.label_laws.specs.Sparse.{IsSparseColumn}
-use Rattle.quick_label.specs.Columns.{RowsBelow, CellsFit, HoldsColumns, IsColumnRoom}
-use Rattle.quick_label.specs.ColumnParts.{IsPart, IsKeptTo}
+use Rattle.quick_label.specs.Columns.{RowsBelow, run_sum}
+use Rattle.quick_label.specs.ColumnParts.{IsKeptTo, IsRunOf, AreRuns}
 
--- what stands before a place stays where something is written there
-pub kept_by_set : (place row : ℕ) (x : Root2) (rows : List ℕ) (cells : List Root2) → IsKeptTo place rows (set rows place row) cells (set cells place x)
-kept_by_set place row x rows cells = record {
-  same_rows = λ k l. get_or-set_other rows place k row 0 (λ e. omega arith);
-  same_cells = λ k l. ap surd_of (get_or-set_other cells place k x no_cell (λ e. omega arith));
-}
-
--- what is kept twice is kept to the lower place
-pub kept_twice : (low high : ℕ) (rows mid_rows more_rows : List ℕ) (cells mid_cells more_cells : List Root2) → low ≤ high
-    → IsKeptTo low rows mid_rows cells mid_cells → IsKeptTo high mid_rows more_rows mid_cells more_cells → IsKeptTo low rows more_rows cells more_cells
-kept_twice low high rows mid_rows more_rows cells mid_cells more_cells order h i = record {
-  same_rows = λ k l. i.same_rows k (omega arith) ∙ h.same_rows k l;
-  same_cells = λ k l. i.same_cells k (omega arith) ∙ h.same_cells k l;
-}
-
+-- ---- what is written
 -- a row below the size in place of another
 pub rows_below_set : (size place row : ℕ) (rows : List ℕ) → RowsBelow size rows → place < length rows → row < size → RowsBelow size (set rows place row)
 rows_below_set size place row rows h l low k inside = elim (cases_eq k place) [
@@ -37,203 +23,142 @@ rows_below_set size place row rows h l low k inside = elim (cases_eq k place) [
   | inr d ↦ omega (arith, get_or-set_other rows place k row 0 d, h k (omega (arith, length-set rows place row)))
 ]
 
--- a cell that fits in place of another
-pub cells_fit_set : (place : ℕ) (x : Root2) (cells : List Root2) → CellsFit cells → place < length cells → SurdWithin (2 ^ 62) (surd_of x) → CellsFit (set cells place x)
-cells_fit_set place x cells h l low k inside = elim (cases_eq k place) [
-  | inl e ↦ subst (λ c. SurdWithin (2 ^ 62) (surd_of c)) (sym (get_or-set_at cells place k x no_cell e l)) low
-  | inr d ↦ subst (λ c. SurdWithin (2 ^ 62) (surd_of c)) (sym (get_or-set_other cells place k x no_cell d)) (h k (omega (arith, length-set cells place x)))
-]
-
--- a part stays where what stands before its end does
-pub part_kept : (m : SurdTable) (column height start end place : ℕ) (rows more_rows : List ℕ) (cells more_cells : List Root2)
-    → IsPart m column height start end rows cells → IsKeptTo place rows more_rows cells more_cells → end ≤ place → IsPart m column height start end more_rows more_cells
-part_kept m column height start end place rows more_rows cells more_cells part kept order = record {
-  below = λ k s e. omega (arith, kept.same_rows k (omega arith), part.below k s e);
-  rising = λ j k s l e. omega (arith, kept.same_rows j (omega arith), kept.same_rows k (omega arith), part.rising j k s l e);
-  are = λ k s e. kept.same_cells k (omega arith) ∙ part.are k s e ∙ ap (λ row. m row column) (sym (kept.same_rows k (omega arith)));
-  zeros = λ row l none. part.zeros row l (λ k s e same. none k s e (kept.same_rows k (omega arith) ∙ same));
+-- what stands before a place stays where something is written there
+pub kept_by_set : (place row : ℕ) (x : ℤ) (rows : List ℕ) (values : List ℤ) → IsKeptTo place rows (set rows place row) values (set values place x)
+kept_by_set place row x rows values = record {
+  same_rows = λ k l. get_or-set_other rows place k row 0 (λ e. omega arith);
+  same_values = λ k l. get_or-set_other values place k x (pos 0) (λ e. omega arith);
 }
 
--- a row more, where the column is 0
-pub part_higher : (m : SurdTable) (column row start end : ℕ) (rows : List ℕ) (cells : List Root2)
-    → IsPart m column row start end rows cells → m row column ≡ zero_surd → IsPart m column (row + 1) start end rows cells
-part_higher m column row start end rows cells part nothing = record {
-  below = λ k s e. omega (arith, part.below k s e);
-  rising = part.rising;
-  are = part.are;
-  zeros = λ other l none. elim (cases_eq other row) [
-    | inl same ↦ ap (λ r. m r column) same ∙ nothing
-    | inr d ↦ part.zeros other (omega arith) none
-  ];
+-- what is kept twice is kept to the lower place
+pub kept_twice : (low high : ℕ) (rows mid_rows more_rows : List ℕ) (values mid_values more_values : List ℤ) → low ≤ high
+    → IsKeptTo low rows mid_rows values mid_values → IsKeptTo high mid_rows more_rows mid_values more_values → IsKeptTo low rows more_rows values more_values
+kept_twice low high rows mid_rows more_rows values mid_values more_values order h i = record {
+  same_rows = λ k l. i.same_rows k (omega arith) ∙ h.same_rows k l;
+  same_values = λ k l. i.same_values k (omega arith) ∙ h.same_values k l;
 }
 
--- a row more, with a cell
-pub part_longer : (m : SurdTable) (column row start end : ℕ) (rows : List ℕ) (cells : List Root2) → start ≤ end
-    → IsPart m column row start end rows cells → slice_index rows end ≡ row → cell_of cells end ≡ m row column → IsPart m column (row + 1) start (end + 1) rows cells
-part_longer m column row start end rows cells order part at cell = record {
-  below = λ k s e. elim (cases_eq k end) [
-    | inl same ↦ omega (arith, ap (slice_index rows) same, at)
-    | inr d ↦ omega (arith, part.below k s (omega arith))
-  ];
-  rising = λ j k s l e. elim (cases_eq k end) [
-    | inl same ↦ omega (arith, ap (slice_index rows) same, at, part.below j s (omega arith))
-    | inr d ↦ part.rising j k s l (omega arith)
-  ];
-  are = λ k s e. elim (cases_eq k end) [
-    | inl same ↦ ap (cell_of cells) same ∙ cell ∙ ap (λ r. m r column) (sym (ap (slice_index rows) same ∙ at))
-    | inr d ↦ part.are k s (omega arith)
-  ];
-  zeros = λ other l none. elim (cases_eq other row) [
-    | inl same ↦ absurd (none end order (omega arith) (at ∙ sym same))
-    | inr d ↦ part.zeros other (omega arith) (λ k s e. none k s (omega arith))
-  ];
-}
+-- ---- sums of runs
+-- a run before what is written stays
+pub run_kept : (w : ℕ → ℤ) (start end place : ℕ) (rows more_rows : List ℕ) (values more_values : List ℤ) → end ≤ place → IsKeptTo place rows more_rows values more_values
+    → run_sum w more_rows more_values start (end - start) ≡ run_sum w rows values start (end - start)
+run_kept w start end place rows more_rows values more_values low kept =
+    sum_cong integers_laws (end - start) _ _ (λ k l. λ i. w (kept.same_rows (start + k) (omega arith) i) *ℤ kept.same_values (start + k) (omega arith) i)
 
--- a row more, whose cell is written at the end and stays there where it isn't 0
-part_next : (m : SurdTable) (column row start end : ℕ) (rows : List ℕ) (cells : List Root2) (x : Root2) (nothing : Bool) → IsTrue nothing ↔ (surd_of x ≡ zero_surd)
-    → start ≤ end → end < length rows → end < length cells → surd_of x ≡ m row column → IsPart m column row start end rows cells
-    → IsPart m column (row + 1) start (end + from_bool (not nothing)) (set rows end row) (set cells end x)
-part_next m column row start end rows cells x true test order room long value part =
-    let here : end + 0 ≡ end = omega arith in
-    subst (λ z. IsPart m column (row + 1) start z (set rows end row) (set cells end x)) (sym here)
-    (part_higher m column row start end _ _ (part_kept m column row start end end rows _ cells _ part (kept_by_set end row x rows cells) (omega arith)) (sym value ∙ test.0 refl))
-part_next m column row start end rows cells x false test order room long value part =
-    part_longer m column row start end _ _ order (part_kept m column row start end end rows _ cells _ part (kept_by_set end row x rows cells) (omega arith))
-    (get_or-set_same rows end row 0 room) (ap surd_of (get_or-set_same cells end x no_cell long) ∙ value)
+times_zero : (s x : ℤ) → s ≡ s +ℤ x *ℤ pos 0
+times_zero s x = ring integers_laws (s ∷ x ∷ []) (search reads depth 30 parts 0 fits 10000) tt
 
--- the same, where the step is known by an equation
-pub part_stepped : (m : SurdTable) (column row start end step : ℕ) (rows : List ℕ) (cells : List Root2) (x : Root2) (nothing : Bool) → IsTrue nothing ↔ (surd_of x ≡ zero_surd)
-    → step ≡ from_bool (not nothing) → start ≤ end → end < length rows → end < length cells → surd_of x ≡ m row column → IsPart m column row start end rows cells
-    → IsPart m column (row + 1) start (end + step) (set rows end row) (set cells end x)
-part_stepped m column row start end step rows cells x nothing test e order room long value part =
-    subst (λ z. IsPart m column (row + 1) start (end + z) (set rows end row) (set cells end x)) (sym e) (part_next m column row start end rows cells x nothing test order room long value part)
+-- a run with a number more, or with none where it is 0
+pub run_more : (w : ℕ → ℤ) (start end row step : ℕ) (number stored : ℤ) (some : Bool) (rows : List ℕ) (values : List ℤ) → start ≤ end → end < length rows → end < length values
+    → stored ≡ number → (some ≡ false → number ≡ pos 0) → step ≡ from_bool some
+    → run_sum w (set rows end row) (set values end stored) start (end + step - start) ≡ run_sum w rows values start (end - start) +ℤ w row *ℤ number
+unfolding sum
+run_more w start end row step number stored true rows values order room long is none at =
+    let count : end + step - start ≡ suc (end - start) = omega arith in
+    let here : start + (end - start) ≡ end = omega arith in
+    ap (run_sum w (set rows end row) (set values end stored) start) count
+    ∙ (λ i. run_kept w start end end rows (set rows end row) values (set values end stored) (omega arith) (kept_by_set end row stored rows values) i
+    +ℤ w ((ap (slice_index (set rows end row)) here ∙ get_or-set_same rows end row 0 room) i) *ℤ (ap (λ k. slice_index_or (set values end stored) k (pos 0)) here ∙ get_or-set_same values end stored (pos 0) long ∙ is) i)
+run_more w start end row step number stored false rows values order room long is none at =
+    let count : end + step - start ≡ end - start = omega arith in
+    ap (run_sum w (set rows end row) (set values end stored) start) count
+    ∙ run_kept w start end end rows (set rows end row) values (set values end stored) (omega arith) (kept_by_set end row stored rows values)
+    ∙ times_zero (run_sum w rows values start (end - start)) (w row) ∙ ap (λ x. run_sum w rows values start (end - start) +ℤ w row *ℤ x) (sym (none refl))
 
--- a step is at most one
-pub step_most : (nothing : Bool) (step : ℕ) → step ≡ from_bool (not nothing) → step ≤ 1
-step_most true step e = omega arith
-step_most false step e = omega arith
+-- and of a block's rows, with one row more
+pub block_more : (w number : ℕ → ℤ) (block : List ℕ) (k : ℕ) (before new last : ℤ) → before ≡ sum integers k (λ j. w (slice_index block j) *ℤ number (slice_index block j))
+    → new ≡ before +ℤ w (slice_index block k) *ℤ last → last ≡ number (slice_index block k) → new ≡ sum integers (k + 1) (λ j. w (slice_index block j) *ℤ number (slice_index block j))
+unfolding sum
+block_more w number block k before new last is more at =
+    let next : k + 1 ≡ suc k = omega arith in
+    more ∙ (λ i. is i +ℤ w (slice_index block k) *ℤ at i) ∙ ap (λ n. sum integers n (λ j. w (slice_index block j) *ℤ number (slice_index block j))) (sym next)
 
--- no rows
-pub no_part : (m : SurdTable) (column start : ℕ) (rows : List ℕ) (cells : List Root2) → IsPart m column 0 start start rows cells
-no_part m column start rows cells = record {
-  below = λ k s e. absurd (omega arith);
-  rising = λ j k s l e. absurd (omega arith);
-  are = λ k s e. absurd (omega arith);
-  zeros = λ row l none. absurd (omega arith);
-}
+-- ---- columns
+-- a run of rows' numbers before what is written stays
+run_of_kept : (block : List ℕ) (number : ℕ → ℤ) (start end place : ℕ) (rows more_rows : List ℕ) (values more_values : List ℤ) → end ≤ place → IsKeptTo place rows more_rows values more_values
+    → IsRunOf block number rows values start end → IsRunOf block number more_rows more_values start end
+run_of_kept block number start end place rows more_rows values more_values low kept run w = run_kept w start end place rows more_rows values more_values low kept ∙ run w
 
--- the columns before a place stand one behind the other, and end at `end`
-pub record AreParts (m : SurdTable) (size column end : ℕ) (starts rows : List ℕ) (cells : List Root2) : Type 0 where
-  pub last : slice_index starts column ≡ end
-  pub most : end ≤ column * size
-  pub rising : (c : ℕ) → c < column → slice_index starts c ≤ slice_index starts (c + 1)
-  pub inside : (c : ℕ) → c ≤ column → slice_index starts c ≤ end
-  pub parts : (c : ℕ) → c < column → IsPart m c size (slice_index starts c) (slice_index starts (c + 1)) rows cells
+-- a run whose ends are known by equations
+run_at : (block : List ℕ) (number : ℕ → ℤ) (start end s e : ℕ) (rows : List ℕ) (values : List ℤ) → s ≡ start → e ≡ end → IsRunOf block number rows values start end → IsRunOf block number rows values s e
+run_at block number start end s e rows values a b run = subst (λ x. x) (λ i. IsRunOf block number rows values (sym a i) (sym b i)) run
 
--- a part between places that are the same
-part_between : (m : SurdTable) (column height start end other_start other_end : ℕ) (rows : List ℕ) (cells : List Root2) → other_start ≡ start → other_end ≡ end
-    → IsPart m column height start end rows cells → IsPart m column height other_start other_end rows cells
-part_between m column height start end other_start other_end rows cells s e part =
-    subst (λ z. IsPart m column height z other_end rows cells) (sym s) (subst (λ z. IsPart m column height start z rows cells) (sym e) part)
+-- where the first columns' runs start, up to the place behind them
+pub record AreStarts (first end : ℕ) (starts : List ℕ) : Type 0 where
+  pub last : slice_index starts (2 * first) ≡ end
+  pub within : (run : ℕ) → run ≤ 2 * first → slice_index starts run ≤ end
 
--- no columns
-pub no_parts : (m : SurdTable) (size : ℕ) (starts rows : List ℕ) (cells : List Root2) → slice_index starts 0 ≡ 0 → AreParts m size 0 0 starts rows cells
-no_parts m size starts rows cells first = record {
-  last = first;
-  most = omega arith;
-  rising = λ c l. absurd (omega arith);
-  inside = λ c l. let none : c ≡ 0 = omega arith in omega (arith, ap (slice_index starts) none, first);
-  parts = λ c l. absurd (omega arith);
-}
+module _ (m : SurdTable) (block : ℕ → List ℕ) (column end middle new : ℕ) (starts rows mid_rows more_rows : List ℕ) (values mid_values more_values : List ℤ) where
+  abbrev pub next_starts : List ℕ
+  next_starts = set (set starts (2 * column + 1) middle) (2 * column + 2) new
 
--- a column more
-pub parts_more : (m : SurdTable) (size column end next : ℕ) (starts rows more_rows : List ℕ) (cells more_cells : List Root2) → AreParts m size column end starts rows cells
-    → IsKeptTo end rows more_rows cells more_cells → IsPart m column size end next more_rows more_cells → end ≤ next → next ≤ end + size → column + 1 < length starts
-    → AreParts m size (column + 1) next (set starts (column + 1) next) more_rows more_cells
-parts_more m size column end next starts rows more_rows cells more_cells parts kept part up most room = record {
-  last = new_last;
-  most = omega (arith, parts.most);
-  rising = λ c l. elim (cases_eq c column) [
-    | inl e ↦ omega (arith, ap (slice_index new) e, ap (λ k. slice_index new (k + 1)) e, same column (omega arith), new_last, parts.last)
-    | inr d ↦ omega (arith, same c (omega arith), same (c + 1) (omega arith), parts.rising c (omega arith))
-  ];
-  inside = λ c l. elim (cases_eq c (column + 1)) [
-    | inl e ↦ omega (arith, ap (slice_index new) e, new_last)
-    | inr d ↦ omega (arith, same c (omega arith), parts.inside c (omega arith))
-  ];
-  parts = λ c l. elim (cases_eq c column) [
-    | inl e ↦
-        subst (λ z. IsPart m z size (slice_index new z) (slice_index new (z + 1)) more_rows more_cells) (sym e)
-        (part_between m column size end next _ _ more_rows more_cells (same column (omega arith) ∙ parts.last) new_last part)
-    | inr d ↦
-        part_between m c size (slice_index starts c) (slice_index starts (c + 1)) _ _ more_rows more_cells (same c (omega arith)) (same (c + 1) (omega arith))
-        (part_kept m c size _ _ end rows more_rows cells more_cells (parts.parts c (omega arith)) kept (parts.inside (c + 1) (omega arith)))
-  ];
-}
-  where
-    new : List ℕ
-    new = set starts (column + 1) next
+  module _ (long : 2 * column + 2 < length starts) where
+    before : (run : ℕ) → run ≤ 2 * column → slice_index next_starts run ≡ slice_index starts run
+    before run l =
+        get_or-set_other (set starts (2 * column + 1) middle) (2 * column + 2) run new 0 (λ e. omega arith) ∙ get_or-set_other starts (2 * column + 1) run middle 0 (λ e. omega arith)
 
-    same : (k : ℕ) → k ≤ column → slice_index new k ≡ slice_index starts k
-    same k l = get_or-set_other starts (column + 1) k next 0 (λ e. omega arith)
+    at_middle : slice_index next_starts (2 * column + 1) ≡ middle
+    at_middle = get_or-set_other (set starts (2 * column + 1) middle) (2 * column + 2) (2 * column + 1) new 0 (λ e. omega arith) ∙ get_or-set_same starts (2 * column + 1) middle 0 (omega arith)
 
-    new_last : slice_index new (column + 1) ≡ next
-    new_last = get_or-set_same starts (column + 1) next 0 room
+    at_end : slice_index next_starts (2 * column + 2) ≡ new
+    at_end = get_or-set_same (set starts (2 * column + 1) middle) (2 * column + 2) new 0 (omega (arith, length-set starts (2 * column + 1) middle))
 
--- a part of a list
-module _ {X : Type 0} (start end : ℕ) (up : start ≤ end) (xs : List X) (room : end ≤ length xs) where
-  -- has so many members
-  pub part_length : length (take (end - start) (drop start xs)) ≡ end - start
-  part_length = length-take-le (end - start) (drop start xs) (omega (arith, length-drop start xs))
+    pub starts_more : end ≤ middle → middle ≤ new → AreStarts column end starts → AreStarts (column + 1) new next_starts
+    starts_more low high are = record {
+      last = let e : 2 * (column + 1) ≡ 2 * column + 2 = omega arith in ap (slice_index next_starts) e ∙ at_end;
+      within = λ run l. elim (cases_eq run (2 * column + 2)) [
+        | inl e ↦ omega (arith, ap (slice_index next_starts) e ∙ at_end)
+        | inr d ↦ elim (cases_eq run (2 * column + 1)) [
+          | inl e ↦ omega (arith, ap (slice_index next_starts) e ∙ at_middle)
+          | inr d' ↦ (let low_run : run ≤ 2 * column = omega arith in omega (arith, before run low_run, are.within run low_run))
+        ]
+      ];
+    }
 
--- the rows of a part
-module _ (size start end : ℕ) (rows : List ℕ) (up : start ≤ end) (room : end ≤ length rows) where
-  row_at : (k : ℕ) → k < end - start → slice_index (take (end - start) (drop start rows)) k ≡ slice_index rows (start + k)
-  row_at k l = get_or-take (end - start) (drop start rows) k 0 l ∙ get_or-drop start rows k 0
+    pub runs_more : end ≤ middle → AreStarts column end starts → IsKeptTo end rows mid_rows values mid_values → IsKeptTo middle mid_rows more_rows mid_values more_values
+        → AreRuns m block column starts rows values
+        → IsRunOf (block column) (λ row. (m row column).a) mid_rows mid_values end middle → IsRunOf (block column) (λ row. (m row column).b) more_rows more_values middle new
+        → AreRuns m block (column + 1) next_starts more_rows more_values
+    runs_more low are kept more_kept runs whole part = record {
+      wholes = λ c l. elim (cases_eq c column) [
+        | inl e ↦ subst (λ j. IsRunOf (block j) (λ row. (m row j).a) more_rows more_values (slice_index next_starts (2 * j)) (slice_index next_starts (2 * j + 1))) (sym e)
+            (run_at (block column) (λ row. (m row column).a) end middle _ _ more_rows more_values (before (2 * column) (omega arith) ∙ are.last) at_middle
+            (run_of_kept (block column) (λ row. (m row column).a) end middle middle mid_rows more_rows mid_values more_values (omega arith) more_kept whole))
+        | inr d ↦
+            run_at (block c) (λ row. (m row c).a) (slice_index starts (2 * c)) (slice_index starts (2 * c + 1)) _ _ more_rows more_values (before (2 * c) (omega arith)) (before (2 * c + 1) (omega arith))
+            (run_of_kept (block c) (λ row. (m row c).a) _ _ end rows more_rows values more_values (are.within (2 * c + 1) (omega arith)) all_kept (runs.wholes c (omega arith)))
+      ];
+      parts = λ c l. elim (cases_eq c column) [
+        | inl e ↦ subst (λ j. IsRunOf (block j) (λ row. (m row j).b) more_rows more_values (slice_index next_starts (2 * j + 1)) (slice_index next_starts (2 * j + 2))) (sym e)
+            (run_at (block column) (λ row. (m row column).b) middle new _ _ more_rows more_values at_middle at_end part)
+        | inr d ↦
+            run_at (block c) (λ row. (m row c).b) (slice_index starts (2 * c + 1)) (slice_index starts (2 * c + 2)) _ _ more_rows more_values (before (2 * c + 1) (omega arith)) (before (2 * c + 2) (omega arith))
+            (run_of_kept (block c) (λ row. (m row c).b) _ _ end rows more_rows values more_values (are.within (2 * c + 2) (omega arith)) all_kept (runs.parts c (omega arith)))
+      ];
+    }
+      where
+        all_kept : IsKeptTo end rows more_rows values more_values
+        all_kept = kept_twice end middle rows mid_rows more_rows values mid_values more_values low kept more_kept
 
-  -- are below the size where all are
-  pub rows_below_part : RowsBelow size rows → RowsBelow size (take (end - start) (drop start rows))
-  rows_below_part h k l =
-      let low : k < end - start = omega (arith, part_length start end up rows room) in
-      omega (arith, row_at k low, h (start + k) (omega arith))
+pub no_runs : (m : SurdTable) (block : ℕ → List ℕ) (starts rows : List ℕ) (values : List ℤ) → AreRuns m block 0 starts rows values
+no_runs m block starts rows values = record { wholes = λ c l. absurd (omega arith); parts = λ c l. absurd (omega arith) }
 
--- the cells of a part
-module _ (start end : ℕ) (cells : List Root2) (up : start ≤ end) (room : end ≤ length cells) where
-  cell_at : (k : ℕ) → k < end - start → cell_of (take (end - start) (drop start cells)) k ≡ cell_of cells (start + k)
-  cell_at k l = ap surd_of (get_or-take (end - start) (drop start cells) k no_cell l ∙ get_or-drop start cells k no_cell)
+-- a test that fails where its negation does not
+pub not_false : (b : Bool) → not b ≡ false → b ≡ true
+not_false true e = refl
+not_false false e = absurd (true≢false e)
 
-  -- fit where all do
-  pub cells_fit_part : CellsFit cells → CellsFit (take (end - start) (drop start cells))
-  cells_fit_part h k l =
-      let low : k < end - start = omega (arith, part_length start end up cells room) in
-      subst (SurdWithin (2 ^ 62)) (sym (cell_at k low)) (h (start + k) (omega arith))
+-- no number yet
+pub no_numbers : (w : ℕ → ℤ) (rows : List ℕ) (values : List ℤ) (start : ℕ) (f : ℕ → ℤ) → run_sum w rows values start (start - start) ≡ sum integers 0 f
+unfolding sum
+no_numbers w rows values start f = let none : start - start ≡ 0 = omega arith in ap (run_sum w rows values start) none
 
--- a part as lists of its own
-pub sparse_part : (m : SurdTable) (column size start end : ℕ) (rows : List ℕ) (cells : List Root2) → start ≤ end → end ≤ length rows → end ≤ length cells
-    → IsPart m column size start end rows cells → IsSparseColumn size m column (take (end - start) (drop start rows)) (take (end - start) (drop start cells))
-sparse_part m column size start end rows cells up room long part = record {
-  below = λ k l. omega (arith, at k (low k l), part.below (start + k) (omega arith) (omega (arith, low k l)));
-  rising = λ j k l e.
-      omega (arith, at j (omega (arith, low k e)), at k (low k e), part.rising (start + j) (start + k) (omega arith) (omega arith) (omega (arith, low k e)));
-  are = λ k l.
-      cell_at start end cells up long k (low k l) ∙ part.are (start + k) (omega arith) (omega (arith, low k l)) ∙ ap (λ r. m r column) (sym (at k (low k l)));
-  zeros = λ row l none. part.zeros row l (λ k s e same.
-      let back : start + (k - start) ≡ k = omega arith in
-      none (k - start) (omega (arith, part_length start end up rows room)) (at (k - start) (omega arith) ∙ ap (slice_index rows) back ∙ same));
-}
-  where
-    low : (k : ℕ) → k < length (take (end - start) (drop start rows)) → k < end - start
-    low k l = omega (arith, part_length start end up rows room)
+pub kept_none : (start : ℕ) (rows : List ℕ) (values : List ℤ) → IsKeptTo start rows rows values values
+kept_none start rows values = record { same_rows = λ k l. refl; same_values = λ k l. refl }
 
-    at : (k : ℕ) → k < end - start → slice_index (take (end - start) (drop start rows)) k ≡ slice_index rows (start + k)
-    at k l = row_at size start end rows up room k l
-
--- the columns of a table, all in room for them
-pub columns_held : (m : SurdTable) (size : ℕ) (starts rows : List ℕ) (cells : List Root2) → (room : IsColumnRoom (record { size = size; starts = starts; rows = rows; cells = cells }))
-    → ((c : ℕ) → c < size → IsPart m c size (slice_index starts c) (slice_index starts (c + 1)) rows cells) → HoldsColumns size m (record { size = size; starts = starts; rows = rows; cells = cells })
-columns_held m size starts rows cells room parts = record {
-  as_many = refl;
-  sparse = λ c l.
-      let inside : slice_index starts (c + 1) ≤ size * size = room.inside (c + 1) (omega arith) in
-      sparse_part m c size (slice_index starts c) (slice_index starts (c + 1)) rows cells (room.rising c l) (omega (arith, room.rows)) (omega (arith, room.cells)) (parts c l);
+-- the first column starts at the first place
+pub first_start : (starts : List ℕ) → 0 < length starts → AreStarts 0 0 (set starts 0 0)
+first_start starts some = record {
+  last = get_or-set_same starts 0 0 0 some;
+  within = λ run l. let e : run ≡ 0 = omega arith in omega (arith, ap (slice_index (set starts 0 0)) e ∙ get_or-set_same starts 0 0 0 some);
 }

@@ -1,8 +1,9 @@
 pub mod SortedColumns
 pub mod FrontsExist
 pub mod ColumnParts
-pub mod ColumnSums
-pub mod CellSums
+pub mod BlockSums
+pub mod RunSums
+pub mod HeldColumns
 pub mod HeldParities
 pub mod ParityBits
 pub mod SetOne

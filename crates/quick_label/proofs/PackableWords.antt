@@ -12,7 +12,7 @@ use Rattle.word_laws.proofs.Spans.{code_both, span-zero, span_closed}
 use Rattle.word_laws.proofs.Sparse.{sparse}
 use Rattle.quick_label.specs.Blocks.{in_block}
 use Rattle.quick_label.specs.Spans.{AreSpan}
-use Rattle.quick_label.specs.Tables.{SurdUpTo, IsPackable}
+use Rattle.quick_label.specs.Tables.{SurdUpTo, IsPackable, IsSparseTable}
 use Rattle.quick_label.proofs.Graded.{in_block_swap}
 use Rattle.quick_label.proofs.SmallNumbers.{small_numbers}
 
@@ -34,6 +34,11 @@ module _ (n : ℕ) (word : List ℕ) (span : List Bool) (are : AreSpan n word sp
   closed_marks x y z lx ly lz e d =
       marks x z lx lz
       (subst (IsInSpan word) (code_both y x z) (span_closed word (product_code y x) (product_code y z) (marked y x ly lx (in_block_swap span y x ∙ e)) (marked y z ly lz d)))
+
+-- so a word's channel is 0 between different blocks
+pub word_sparse : (n : ℕ) (word : List ℕ) → IsWord n word → (span : List Bool) → AreSpan n word span → (m : ScaledTable) → IsBuiltOf n (word_steps word) m → IsSparseTable (4 ^ n) span m.table
+word_sparse n word is span are m built = λ row column lr lc out.
+    sparse n word is m built row column lr lc (λ h. let e = in_block_swap span column row ∙ marks n word span are row column lr lc h in cc)
 
 pub words_packable : (n : ℕ) → 0 < n → n ≤ 3 → (word : List ℕ) → IsWord n word → (span : List Bool) → AreSpan n word span → (m : ScaledTable) → IsBuiltOf n (word_steps word) m
     → (m.exponent ≤ 6 → IsPackable n span 8 5 m.table) × (m.exponent ≤ 5 → IsPackable n span 5 4 m.table)

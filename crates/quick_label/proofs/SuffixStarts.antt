@@ -2,6 +2,7 @@
 use Rattle.std.proofs.Common.{◌≡◌, ℕ, ◌^◌, ◌<◌, ◌≤◌, inl, [], sym, subst, arith}
 use Rattle.channel_rep.specs.Cells.{table_of, scaled}
 use Rattle.channel_rep.specs.Tables.{IsBuiltOf}
+use Rattle.channel_rep.specs.Words.{IsWord}
 use Rattle.coset_label.specs.Words.{RotationWord}
 use Rattle.quick_label.specs.Classes.{AreClasses}
 use Rattle.quick_label.specs.Columns.{HoldsColumns}
@@ -23,13 +24,17 @@ pub record AreEmptyWordParts (n : ℕ) (s : SuffixParts) : Type 0 where
   pub classes : AreClasses n [] s.blocks.homes s.classes
   pub constants : HasConstants n s
 
+-- no letters are a word
+pub no_letters : (n : ℕ) → IsWord n []
+no_letters n = grind arith
+
 module _ (n : ℕ) (some : 0 < n) (few : n ≤ 3) (s : SuffixParts) (are : AreEmptyWordParts n s) where
   columns : HoldsColumns (4 ^ n) (table_of s.channel) s.columns
   columns = subst (λ (k : ℕ). HoldsColumns (4 ^ k) (table_of s.channel) s.columns) are.qubits are.columns
 
   of_no_letters : IsSuffix (record s { word = record { qubits = n; letters = [] } })
   of_no_letters = record {
-    word = record { some = some; few = few; word = grind arith; short = omega arith };
+    word = record { some = some; few = few; word = no_letters n; short = omega arith };
     qubits = are.qubits;
     reduced = inl are.exponent;
     built = are.built;
@@ -41,6 +46,7 @@ module _ (n : ℕ) (some : 0 < n) (few : n ≤ 3) (s : SuffixParts) (are : AreEm
     blocks = are.blocks;
     classes = are.classes;
     constants = record {
+      narrow = are.constants.narrow;
       turns = are.constants.turns;
       folds = are.constants.folds;
       powers = are.constants.powers;

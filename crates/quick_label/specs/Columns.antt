@@ -1,47 +1,41 @@
--- A table's columns, each kept by its cells other than 0, one column behind the other.
+-- A table's columns, each kept by its numbers other than 0, one column behind the other: the whole parts of its cells, and then
+-- their parts of √2.
 -- Source: Knuth, The Art of Computer Programming, volume 1, section 2.2.6, for sparse matrices.
-use Rattle.std.specs.Prelude.{◌≡◌, ℕ, ◌+◌, ◌-◌, ◌*◌, ◌^◌, ◌<◌, ◌≤◌, List, length, slice_index, take, drop}
-use Rattle.tc_ring.specs.Surds.{SurdWithin}
-use Rattle.tc_ring.specs.declared.root2.Root2.{Root2}
+use Rattle.std.specs.Prelude.{◌≡◌, ℕ, ◌+◌, ◌-◌, ◌*◌, ◌^◌, ◌<◌, ◌≤◌, ℤ, pos, ◌+ℤ◌, ◌*ℤ◌, List, length, slice_index, slice_index_or}
+use Rattle.ring_laws.specs.Matrix.{sum}
+use Rattle.ring_laws.specs.Ring.{integers}
 use Rattle.channel_rep.specs.Tables.{SurdTable}
-use Rattle.channel_rep.specs.Cells.{cell_of}
-use Rattle.label_laws.specs.Sparse.{IsSparseColumn}
 
--- where each column starts, and the row and the cell at each place
+-- where each run of numbers starts, two for each column, and the row and the number at each place
 pub record StoredColumns : Type 0 where
   pub size : ℕ
   pub starts : List ℕ
   pub rows : List ℕ
-  pub cells : List Root2
-
--- the rows of a column's cells, up to where the next column starts
-abbrev pub rows_in : StoredColumns → ℕ → List ℕ
-rows_in columns c = take (slice_index columns.starts (c + 1) - slice_index columns.starts c) (drop (slice_index columns.starts c) columns.rows)
-
--- and the cells
-abbrev pub cells_in : StoredColumns → ℕ → List Root2
-cells_in columns c = take (slice_index columns.starts (c + 1) - slice_index columns.starts c) (drop (slice_index columns.starts c) columns.cells)
+  pub values : List ℤ
 
 -- rows of a table of this size
 abbrev pub RowsBelow : ℕ → List ℕ → Type 0
 RowsBelow size rows = (k : ℕ) → k < length rows → slice_index rows k < size
 
--- cells whose numbers are at most 2^62 in absolute value
-abbrev pub CellsFit : List Root2 → Type 0
-CellsFit cells = (k : ℕ) → k < length cells → SurdWithin (2 ^ 62) (cell_of cells k)
-
--- room for all cells of a table, whose columns start one behind the other
+-- room for all numbers of a table
 pub record IsColumnRoom (columns : StoredColumns) : Type 0 where
   pub few : columns.size ≤ 64
-  pub starts : length columns.starts ≡ columns.size + 1
-  pub rows : length columns.rows ≡ columns.size * columns.size
-  pub cells : length columns.cells ≡ columns.size * columns.size
-  pub rising : (c : ℕ) → c < columns.size → slice_index columns.starts c ≤ slice_index columns.starts (c + 1)
-  pub inside : (c : ℕ) → c ≤ columns.size → slice_index columns.starts c ≤ columns.size * columns.size
+  pub starts : length columns.starts ≡ 2 * columns.size + 1
+  pub rows : length columns.rows ≡ 2 * (columns.size * columns.size)
+  pub values : length columns.values ≡ 2 * (columns.size * columns.size)
+  pub inside : (run : ℕ) → run ≤ 2 * columns.size → slice_index columns.starts run ≤ 2 * (columns.size * columns.size)
   pub below : RowsBelow columns.size columns.rows
-  pub fit : CellsFit columns.cells
 
--- each column of a table, without its zeros
+-- the sum of so many numbers from a place on, each times the weight of its row
+abbrev pub run_sum : (ℕ → ℤ) → List ℕ → List ℤ → ℕ → ℕ → ℤ
+run_sum w rows values start count = sum integers count (λ k. w (slice_index rows (start + k)) *ℤ slice_index_or values (start + k) (pos 0))
+
+-- for all weights of rows, the numbers between two places have the sum of the numbers of all rows: they are these without zeros
+abbrev pub IsRun : ℕ → (ℕ → ℤ) → List ℕ → List ℤ → ℕ → ℕ → Type 0
+IsRun size number rows values start end = (w : ℕ → ℤ) → run_sum w rows values start (end - start) ≡ sum integers size (λ row. w row *ℤ number row)
+
+-- each column of a table
 pub record HoldsColumns (size : ℕ) (m : SurdTable) (columns : StoredColumns) : Type 0 where
   pub as_many : columns.size ≡ size
-  pub sparse : (c : ℕ) → c < size → IsSparseColumn size m c (rows_in columns c) (cells_in columns c)
+  pub wholes : (c : ℕ) → c < size → IsRun size (λ row. (m row c).a) columns.rows columns.values (slice_index columns.starts (2 * c)) (slice_index columns.starts (2 * c + 1))
+  pub parts : (c : ℕ) → c < size → IsRun size (λ row. (m row c).b) columns.rows columns.values (slice_index columns.starts (2 * c + 1)) (slice_index columns.starts (2 * c + 2))

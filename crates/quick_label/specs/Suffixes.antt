@@ -22,6 +22,7 @@ use Rattle.quick_label.specs.declared.front.Front.{Front}
 pub record SuffixParts : Type 0 where
   pub word : RotationWord
   pub channel : ChannelGrid
+  pub narrow : ChannelGrid
   pub columns : StoredColumns
   pub parities : ParityWords
   pub span : List Bool
@@ -33,9 +34,10 @@ pub record SuffixParts : Type 0 where
   pub top : ℕ
   pub front : Front
 
--- the turns of all letters, the weights of the fold and the powers of the places, and room for blocks, classes and a front, on n
--- qubits
+-- the turns of all letters, the weights of the fold and the powers of the places, and room for a channel, blocks, classes and a
+-- front, on n qubits
 pub record HasConstants (n : ℕ) (s : SuffixParts) : Type 0 where
+  pub narrow : s.narrow.qubits ≡ n
   pub turns : s.turns.qubits ≡ n
   pub folds : AreFolds n s.folds
   pub powers : ArePlacePowers n s.powers

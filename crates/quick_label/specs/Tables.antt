@@ -22,3 +22,7 @@ pub record IsLeadRow (size : ℕ) (m : SurdTable) (column lead : ℕ) : Type 0 w
   pub low : lead < size
   pub zeros : (row : ℕ) → row < lead → m row column ≡ zero_surd
   pub other : m lead column ≢ zero_surd
+
+-- a table that is 0 where row and column lie in different blocks
+abbrev pub IsSparseTable : ℕ → List Bool → SurdTable → Type 0
+IsSparseTable size span m = (row column : ℕ) → row < size → column < size → in_block span column row ≡ false → m row column ≡ zero_surd

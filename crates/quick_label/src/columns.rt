@@ -1,88 +1,124 @@
 // The columns of a channel without their zeros.
-ghost use Rattle.std.specs.Prelude.{◌≡◌, ℕ, ◌+◌, ◌*◌, ◌^◌, ◌<◌, ◌≤◌, ◌↔◌, IsTrue, IfOk, length, slice_index};
-ghost use Rattle.tc_ring.specs.Root2.{surd_of};
-ghost use Rattle.tc_ring.specs.Surds.{SurdWithin, zero_surd};
-ghost use Rattle.channel_rep.specs.Cells.{cell_of, table_of};
-ghost use Rattle.quick_label.specs.Columns.{StoredColumns, IsColumnRoom, RowsBelow, CellsFit};
-ghost use Rattle.quick_label.specs.ColumnParts.{IsPart, IsKeptTo};
+ghost use Rattle.std.specs.Prelude.{◌≡◌, ℕ, ◌+◌, ◌-◌, ◌*◌, ◌^◌, ◌<◌, ◌≤◌, ℤ, ◌+ℤ◌, ◌*ℤ◌, if◌then◌else◌, Bool, List, IfOk, length, slice_index};
+ghost use Rattle.channel_rep.specs.Cells.{table_of};
+ghost use Rattle.quick_label.specs.Blocks.{block_rows};
+ghost use Rattle.quick_label.specs.Columns.{StoredColumns, IsColumnRoom, RowsBelow, run_sum};
+ghost use Rattle.quick_label.specs.ColumnParts.{IsKeptTo, IsRunOf, AreRuns};
+ghost use Rattle.quick_label.specs.Rooms.{AreBlocks};
+ghost use Rattle.quick_label.specs.Tables.{IsSparseTable};
 
+use crate::blocks::Blocks;
 use crate::spans::codes;
-use channel_rep::Channel;
+use channel_rep::Narrow;
 use std::alloc::{AllocError, Global};
 use std::marker::Model;
-use tc_ring::Root2;
 
-/// Whether a cell is 0.
-fn is_zero(cell: Root2) -> bool
-    ensures { IsTrue result ↔ (surd_of cell ≡ zero_surd) }
+/// Writes a row and its number at a place. The result is the place behind it, or the same place where the number is 0.
+fn write_number(row: u8, number: i16, end: usize, rows: &mut [u8], values: &mut [i16]) -> usize
+    requires room { end < length rows.old }
+    requires long { length values.old ≡ length rows.old }
+    ensures rows { length rows.new ≡ length rows.old }
+    ensures values { length values.new ≡ length values.old }
+    ensures from { end ≤ result }
+    ensures most { result ≤ end + 1 }
+    ensures below { (size : ℕ) → row < size → RowsBelow size rows.old → RowsBelow size rows.new }
+    ensures kept { IsKeptTo end rows.old rows.new values.old values.new }
+    ensures sum { (w : ℕ → ℤ) (start : ℕ) → start ≤ end → run_sum w rows.new values.new start (result - start)
+        ≡ run_sum w rows.old values.old start (end - start) +ℤ w row *ℤ number }
 {
-    cell == Root2 { a: 0, b: 0 }
+    rows[end] = row;
+    values[end] = number;
+    end + usize::from(number != 0)
 }
 
-/// Writes the rows and the cells of a column without its zeros, from a place on. The result is the place behind them.
-fn write_column(
-    channel: &Channel,
-    size: usize,
+/// The whole part of a cell, or its part of √2.
+fn number_at(channel: &Narrow, row: usize, column: usize, part: bool) -> i16
+    requires row { row < 4 ^ channel.now.qubits }
+    requires column { column < 4 ^ channel.now.qubits }
+    ensures { result ≡ (if part then (table_of channel.now row column).b else (table_of channel.now row column).a) }
+{
+    let (whole, root) = channel.cell(row, column);
+    if part { root } else { whole }
+}
+
+/// Writes the whole parts of a column's cells in the rows of its block, or their parts of √2, without zeros, from a place on. The
+/// result is the place behind them.
+fn write_run(
+    channel: &Narrow,
     column: usize,
+    block: &[u8],
+    part: bool,
     start: usize,
     rows: &mut [u8],
-    cells: &mut [Root2],
+    values: &mut [i16],
 ) -> usize
-    requires size { size ≡ 4 ^ channel.now.qubits }
-    requires few { size ≤ 64 }
-    requires column { column < size }
-    requires room { start + size ≤ length rows.old }
-    requires long { length cells.old ≡ length rows.old }
-    requires below { RowsBelow size rows.old }
-    requires fit { CellsFit cells.old }
+    requires column { column < 4 ^ channel.now.qubits }
+    requires block { RowsBelow (4 ^ channel.now.qubits) block.now }
+    requires room { start + length block.now ≤ length rows.old }
+    requires long { length values.old ≡ length rows.old }
+    requires below { RowsBelow (4 ^ channel.now.qubits) rows.old }
     ensures rows { length rows.new ≡ length rows.old }
-    ensures cells { length cells.new ≡ length cells.old }
+    ensures values { length values.new ≡ length values.old }
     ensures from { start ≤ result }
-    ensures most { result ≤ start + size }
-    ensures below { RowsBelow size rows.new }
-    ensures fit { CellsFit cells.new }
-    ensures column { IsPart (table_of channel.now) column size start result rows.new cells.new }
-    ensures kept { IsKeptTo start rows.old rows.new cells.old cells.new }
+    ensures most { result ≤ start + length block.now }
+    ensures below { RowsBelow (4 ^ channel.now.qubits) rows.new }
+    ensures kept { IsKeptTo start rows.old rows.new values.old values.new }
+    ensures sum { IsRunOf block.now (λ row. if part then (table_of channel.now row column).b else (table_of channel.now row column).a)
+        rows.new values.new start result }
 {
     let mut end = start;
-    for row in 0..size {
-        let cell = channel.cell(row, column);
-        rows[end] = row as u8;
-        cells[end] = cell;
-        end += usize::from(!is_zero(cell));
+    for k in 0..block.len() {
+        let row = block[k];
+        let number = number_at(channel, row as usize, column, part);
+        end = write_number(row, number, end, rows, values);
     }
     end
 }
 
-/// Writes all columns of a channel without their zeros, one behind the other, and where each of them starts.
-fn write_columns(channel: &Channel, starts: &mut [u16], rows: &mut [u8], cells: &mut [Root2])
-    requires few { 4 ^ channel.now.qubits ≤ 64 }
-    requires starts { length starts.old ≡ 4 ^ channel.now.qubits + 1 }
-    requires rows { length rows.old ≡ 4 ^ channel.now.qubits * 4 ^ channel.now.qubits }
-    requires cells { length cells.old ≡ 4 ^ channel.now.qubits * 4 ^ channel.now.qubits }
+/// Writes all columns of a channel without their zeros, one behind the other, and where each of their runs starts: the whole parts
+/// of a column, and then its parts of √2.
+fn write_columns(
+    channel: &Narrow,
+    blocks: &Blocks,
+    starts: &mut [u16],
+    rows: &mut [u8],
+    values: &mut [i16],
+)
+    requires size { blocks.now.size ≡ 4 ^ channel.now.qubits }
+    requires few { blocks.now.size ≤ 64 }
+    requires blocks { (span : List Bool) × AreBlocks (4 ^ channel.now.qubits) span blocks.now }
+    requires starts { length starts.old ≡ 2 * blocks.now.size + 1 }
+    requires rows { length rows.old ≡ 2 * (blocks.now.size * blocks.now.size) }
+    requires values { length values.old ≡ 2 * (blocks.now.size * blocks.now.size) }
     requires below { RowsBelow (4 ^ channel.now.qubits) rows.old }
-    requires fit { CellsFit cells.old }
-    ensures room { IsColumnRoom (record { size = 4 ^ channel.now.qubits; starts = starts.new; rows = rows.new; cells = cells.new }) }
-    ensures columns { (c : ℕ) → c < 4 ^ channel.now.qubits → IsPart (table_of channel.now) c (4 ^ channel.now.qubits)
-        (slice_index starts.new c) (slice_index starts.new (c + 1)) rows.new cells.new }
+    ensures starts { length starts.new ≡ length starts.old }
+    ensures rows { length rows.new ≡ length rows.old }
+    ensures values { length values.new ≡ length values.old }
+    ensures inside { (run : ℕ) → run ≤ 2 * blocks.now.size → slice_index starts.new run ≤ 2 * (blocks.now.size * blocks.now.size) }
+    ensures below { RowsBelow (4 ^ channel.now.qubits) rows.new }
+    ensures columns { (span : List Bool) → AreBlocks (4 ^ channel.now.qubits) span blocks.now
+        → AreRuns (table_of channel.now) (block_rows (4 ^ channel.now.qubits) span) (4 ^ channel.now.qubits) starts.new rows.new values.new }
 {
-    let size = starts.len() - 1;
+    let size = blocks.size();
     let mut end = 0;
     starts[0] = 0;
     for column in 0..size {
-        end = write_column(channel, size, column, end, rows, cells);
-        starts[column + 1] = end as u16;
+        let block = blocks.rows_of(column);
+        let middle = write_run(channel, column, block, false, end, rows, values);
+        end = write_run(channel, column, block, true, middle, rows, values);
+        starts[2 * column + 1] = middle as u16;
+        starts[2 * column + 2] = end as u16;
     }
 }
 
-/// The columns of a channel, each by its cells other than 0 and their rows. They stand one behind the other in room for all
-/// cells of a table, which is taken once.
+/// The columns of a channel, each by its numbers other than 0 and their rows. They stand one behind the other in room for all
+/// numbers of a table, which is taken once.
 #[derive(Drop)]
 pub struct Columns {
     size: usize,
     starts: Vec<u16>,
     rows: Vec<u8>,
-    cells: Vec<Root2>,
+    values: Vec<i16>,
 }
 
 impl Model for Columns {
@@ -90,29 +126,29 @@ impl Model for Columns {
 
     ghost Value = { StoredColumns };
 
-    ghost view = { λ c. record { size = c.size; starts = c.starts.items; rows = c.rows.items; cells = c.cells.items } };
+    ghost view = { λ c. record { size = c.size; starts = c.starts.items; rows = c.rows.items; values = c.values.items } };
 
     ghost invariant = { λ c. IsColumnRoom
-        (record { size = c.size; starts = c.starts.items; rows = c.rows.items; cells = c.cells.items }) };
+        (record { size = c.size; starts = c.starts.items; rows = c.rows.items; values = c.values.items }) };
 }
 
 impl Columns {
-    ghost use Rattle.quick_label.specs.Columns.{rows_in, cells_in, HoldsColumns};
+    ghost use Rattle.quick_label.specs.Columns.{HoldsColumns};
 
-    /// Room for the columns of a channel on n qubits, all without cells.
+    /// Room for the columns of a channel on n qubits, all without numbers.
     pub fn new(alloc: Global, n: u8) -> Result<Columns, AllocError>
         requires { n ≤ 3 }
         ensures { IfOk result (λ columns. columns.size ≡ 4 ^ n) }
     {
         let size = codes(n);
-        let starts = vec![in alloc; 0u16; size + 1]?;
-        let rows = vec![in alloc; 0u8; size * size]?;
-        let cells = vec![in alloc; Root2 { a: 0, b: 0 }; size * size]?;
+        let starts = vec![in alloc; 0u16; 2 * size + 1]?;
+        let rows = vec![in alloc; 0u8; 2 * (size * size)]?;
+        let values = vec![in alloc; 0i16; 2 * (size * size)]?;
         Ok(Columns {
             size,
             starts,
             rows,
-            cells,
+            values,
         })
     }
 
@@ -124,25 +160,54 @@ impl Columns {
         self.size
     }
 
-    /// Takes the columns of a channel in place of those before.
-    pub fn take(&mut self, channel: &Channel)
-        requires { self.old.size ≡ 4 ^ channel.now.qubits }
-        ensures { HoldsColumns (4 ^ channel.now.qubits) (table_of channel.now) self.new }
+    /// Takes the columns of a channel in place of those before, where the channel is 0 between different blocks.
+    pub fn take(&mut self, channel: &Narrow, blocks: &Blocks)
+        requires size { self.old.size ≡ 4 ^ channel.now.qubits }
+        requires blocks { blocks.now.size ≡ 4 ^ channel.now.qubits }
+        requires held { (span : List Bool) × AreBlocks (4 ^ channel.now.qubits) span blocks.now }
+        ensures size { self.new.size ≡ self.old.size }
+        ensures columns { (span : List Bool) → AreBlocks (4 ^ channel.now.qubits) span blocks.now
+            → IsSparseTable (4 ^ channel.now.qubits) span (table_of channel.now)
+            → HoldsColumns (4 ^ channel.now.qubits) (table_of channel.now) self.new }
     {
-        write_columns(channel, &mut self.starts, &mut self.rows, &mut self.cells);
+        write_columns(
+            channel,
+            blocks,
+            &mut self.starts,
+            &mut self.rows,
+            &mut self.values,
+        );
     }
 
-    /// The rows of a column's cells other than 0, rising, and these cells.
-    pub fn column(&self, column: usize) -> (&[u8], &[Root2])
+    /// Where the whole parts of a column start, where its parts of √2 do, and where they end.
+    pub fn runs(&self, column: usize) -> (usize, usize, usize)
         requires { column < self.now.size }
-        ensures rows { result.0.now ≡ rows_in self.now column }
-        ensures cells { result.1.now ≡ cells_in self.now column }
-        ensures long { length result.1.now ≡ length result.0.now }
-        ensures below { RowsBelow self.now.size result.0.now }
-        ensures fit { CellsFit result.1.now }
+        ensures start { result.0 ≡ slice_index self.now.starts (2 * column) }
+        ensures middle { result.1 ≡ slice_index self.now.starts (2 * column + 1) }
+        ensures end { result.2 ≡ slice_index self.now.starts (2 * column + 2) }
+        ensures middle_inside { result.1 ≤ length self.now.rows }
+        ensures end_inside { result.2 ≤ length self.now.rows }
     {
-        let start = self.starts[column] as usize;
-        let end = self.starts[column + 1] as usize;
-        (&self.rows[start..end], &self.cells[start..end])
+        (
+            self.starts[2 * column] as usize,
+            self.starts[2 * column + 1] as usize,
+            self.starts[2 * column + 2] as usize,
+        )
+    }
+
+    /// The rows of all numbers.
+    pub fn rows(&self) -> &[u8]
+        ensures value { result.now ≡ self.now.rows }
+        ensures below { RowsBelow self.now.size result.now }
+    {
+        &self.rows
+    }
+
+    /// The numbers.
+    pub fn values(&self) -> &[i16]
+        ensures value { result.now ≡ self.now.values }
+        ensures long { length result.now ≡ length self.now.rows }
+    {
+        &self.values
     }
 }

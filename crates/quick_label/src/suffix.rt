@@ -21,8 +21,8 @@ use crate::places::{find_places, place_powers, placed_sum, tag_of_sum, top_power
 use crate::spans::{codes, empty_span, widen};
 use crate::sums::weigh_columns;
 use crate::turns::Turns;
-use channel_rep::Channel;
-use coset_label::{Scratch, Word, channel_of_word, label_of_front};
+use channel_rep::{Channel, Narrow};
+use coset_label::{Scratch, Word, label_of_front, narrow_of_word};
 use coset_words::{Mark, mark_of};
 use pauli_basis::Pauli;
 use std::alloc::{AllocError, Global};
@@ -34,8 +34,9 @@ use std::marker::Model;
 #[derive(Drop)]
 pub struct Suffix {
     word: Word,
-    /// The word's channel, with its least exponent.
+    /// The word's channel, with its least exponent, and the narrow rows that it is made in.
     channel: Channel,
+    narrow: Narrow,
     columns: Columns,
     parities: Parities,
     span: Vec<bool>,
@@ -62,6 +63,7 @@ impl Model for Suffix {
     ghost invariant = { λ s. IsSuffix (record {
       word = s.word;
       channel = s.channel;
+      narrow = s.narrow;
       columns = s.columns;
       parities = s.parities;
       span = s.span.items;
@@ -181,15 +183,17 @@ impl Suffix {
         requires few { n ≤ 3 }
         ensures { IfOk result (λ s. s ≡ record { qubits = n; letters = [] }) }
     {
-        let channel = Channel::identity(alloc, n)?;
-        let mut columns = Columns::new(alloc, n)?;
-        columns.take(&channel);
+        let narrow = Narrow::new(alloc, n)?;
+        let mut channel = Channel::identity(alloc, n)?;
+        channel.copy_from_narrow(&narrow);
         let mut parities = Parities::new(alloc, n)?;
         parities.take(&channel);
         let mut span = vec![in alloc; false; codes(n)]?;
         empty_span(&mut span);
         let mut blocks = Blocks::new(alloc, n)?;
         blocks.take(&span);
+        let mut columns = Columns::new(alloc, n)?;
+        columns.take(&narrow, &blocks);
         let mut classes = new_classes(alloc, n)?;
         take_classes(n, &span, &blocks, &mut classes);
         let turns = Turns::new(alloc, n)?;
@@ -197,6 +201,7 @@ impl Suffix {
         Ok(Suffix {
             word: Word::empty(n),
             channel,
+            narrow,
             columns,
             parities,
             span,
@@ -225,12 +230,13 @@ impl Suffix {
         if self.word == word {
             return;
         }
-        channel_of_word(word, &mut self.channel);
-        self.channel.reduce();
-        self.columns.take(&self.channel);
+        narrow_of_word(word, &mut self.narrow);
+        self.narrow.reduce();
+        self.channel.copy_from_narrow(&self.narrow);
         self.parities.take(&self.channel);
         span_of(word, &mut self.span, &mut self.front.span);
         self.blocks.take(&self.span);
+        self.columns.take(&self.narrow, &self.blocks);
         take_classes(word.qubits(), &self.span, &self.blocks, &mut self.classes);
         self.word = word;
     }

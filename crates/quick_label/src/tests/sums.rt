@@ -1,7 +1,6 @@
 ghost use Rattle.std.specs.Prelude.{◌≡◌};
 
-use super::words::{channel_of, word};
-use crate::columns::Columns;
+use super::words::{columns_of, word};
 use crate::sums::weigh_columns;
 use crate::weights::{BASE, Weights};
 use std::test::Fail;
@@ -13,9 +12,7 @@ fn columns_have_these_sums(rt: HostRuntime) -> Result<(), Fail> {
     let cube = BASE.wrapping_mul(BASE).wrapping_mul(BASE);
     let fifth = cube.wrapping_mul(BASE).wrapping_mul(BASE);
     let sixth = fifth.wrapping_mul(BASE);
-    let mut columns = Columns::new(rt.alloc(), 1)?;
-    let channel = channel_of(rt.alloc(), word(1, &[3])?)?;
-    columns.take(&channel);
+    let columns = columns_of(rt.alloc(), word(1, &[3])?)?;
     let fold = Weights::of_fold(rt.alloc(), 1)?;
     let none = Weights::new(rt.alloc(), 1)?;
     let (mut folds, mut highs, mut lows) = ([0; 4], [1; 4], [2; 4]);

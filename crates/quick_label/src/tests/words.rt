@@ -2,8 +2,10 @@
 ghost use Rattle.std.specs.Prelude.{◌≡◌, ◌≢◌, ◌<◌, ◌≤◌, length, IfOk};
 ghost use Rattle.coset_label.specs.Words.{most_letters};
 
-use channel_rep::Channel;
-use coset_label::{Word, channel_of_word};
+use crate::blocks::Blocks;
+use crate::columns::Columns;
+use channel_rep::{Channel, Narrow};
+use coset_label::{Word, channel_of_word, narrow_of_word};
 use pauli_basis::Pauli;
 use std::alloc::{AllocError, Global};
 
@@ -62,4 +64,19 @@ pub fn channel_of(alloc: Global, word: Word) -> Result<Channel, AllocError>
     channel_of_word(word, &mut channel);
     channel.reduce();
     Ok(channel)
+}
+
+/// The columns of the channel of a word on one qubit whose letters are Z.
+pub fn columns_of(alloc: Global, word: Word) -> Result<Columns, AllocError>
+    requires { word.qubits ≡ 1 }
+    ensures { IfOk result (λ columns. columns.size ≡ 4) }
+{
+    let mut blocks = Blocks::new(alloc, 1)?;
+    blocks.take(&[true, false, false, true]);
+    let mut narrow = Narrow::new(alloc, 1)?;
+    narrow_of_word(word, &mut narrow);
+    narrow.reduce();
+    let mut columns = Columns::new(alloc, 1)?;
+    columns.take(&narrow, &blocks);
+    Ok(columns)
 }

@@ -1,10 +1,4 @@
-use Rattle.std.proofs.Common.{ℕ, ◌^◌, ◌<◌, List, slice_index}
-use Rattle.channel_rep.specs.Tables.{SurdTable}
-use Rattle.label_laws.specs.Congruence.{IsCongruent}
-use Rattle.label_laws.specs.Folds.{weighed}
-use Rattle.label_laws.specs.Sparse.{AreWeights}
-use Rattle.quick_label.specs.Columns.{HoldsColumns}
-use Rattle.quick_label.proofs.ColumnSums.{AreSumsOfFirst}
+use Rattle.quick_label.proofs.RunSums.{AreSumsOfFirst}
 use Rattle.quick_label.proofs.sums.weigh_columns.Given as goal
 
 abbrev pub invariant-loop-column : goal.invariant-loop-column
