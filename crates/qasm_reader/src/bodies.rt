@@ -227,14 +227,14 @@ pub(crate) fn gates_defined<'a>(
     alloc: Global,
     list: &Definitions<'a>,
     definition: &Definition<'a>,
-    length: usize,
+    room: usize,
 ) -> Result<Vec<Gate>, AllocError>
     requires kept { AreKept list.now }
     requires narrow { length definition.now.names.items ≤ most_qubits }
     requires good { list_any (is_bad_entry (known_behind known list.now.list.items) (name_list definition.now.names.items)) (entries definition.now.body.items) ≡ false }
     ensures { IfOk result (λ v. v.items ≡ (defined (known_behind known list.now.list.items) (name_list definition.now.names.items) (entries definition.now.body.items)).gates) }
 {
-    let mut gates = Vec::with_capacity(alloc, length)?;
+    let mut gates = Vec::with_capacity(alloc, room)?;
     for line in &definition.body {
         push_entry(alloc, &mut gates, list, &definition.names, line)?;
     }

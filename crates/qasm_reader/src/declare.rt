@@ -146,14 +146,14 @@ fn gates_kept<'a>(
     alloc: Global,
     list: &Definitions<'a>,
     definition: &Definition<'a>,
-    length: usize,
+    room: usize,
 ) -> Result<Vec<Gate>, AllocError>
     requires kept { AreKept list.now }
     requires good { list_any (is_bad_entry (known_behind known list.now.list.items) (name_list definition.now.names.items)) (entries definition.now.body.items) ≡ false }
     ensures { IfOk result (λ v. length definition.now.names.items ≤ most_qubits → v.items ≡ (defined (known_behind known list.now.list.items) (name_list definition.now.names.items) (entries definition.now.body.items)).gates) }
 {
     if definition.names.len() <= usize::from(MOST_QUBITS) {
-        gates_defined(alloc, list, definition, length)
+        gates_defined(alloc, list, definition, room)
     } else {
         Ok(Vec::new(alloc))
     }
