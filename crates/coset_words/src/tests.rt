@@ -46,6 +46,7 @@ fn word(n: u8, codes: &[u8]) -> Result<Word, &'static str>
     Ok(w)
 }
 
+/// Pairs of words, and whether they lie in one coset.
 #[test]
 fn words_lie_in_one_coset(rt: HostRuntime) -> Result<(), Fail> {
     // Qubits, two words, whether one comes of the other by exchanges of neighbours that commute, and whether the product of
@@ -90,6 +91,7 @@ fn words_lie_in_one_coset(rt: HostRuntime) -> Result<(), Fail> {
     Ok(())
 }
 
+/// The answers agree with a comparison of labels.
 #[test]
 fn words_of_one_coset_have_equal_labels(rt: HostRuntime) -> Result<(), Fail> {
     for pair in 0..81u8 {
@@ -116,6 +118,7 @@ fn mark(codes: &[u8], alloc: Global) -> Result<Mark, Fail> {
     Ok(mark_of(&label))
 }
 
+/// Words of one coset have equal marks.
 #[test]
 fn words_of_one_coset_have_one_mark(rt: HostRuntime) -> Result<(), Fail> {
     // Two words on one qubit, the least exponents of their channels, and whether they lie in one coset.

@@ -11,7 +11,7 @@ use tc_circuit::Circuit;
 
 const MOST_H_GATES: u32 = 120;
 
-// Refuses a circuit with too many h gates.
+/// Refuses a circuit with too many h gates.
 fn limit_h(circuit: &Circuit) -> Result<(), CheckFault>
     requires { length circuit.now.gates < 2 ^ 32 }
     ensures ok { OnOk result (h_count_of circuit.now.gates ≤ most_h_gates) }

@@ -19,6 +19,7 @@ pub enum CheckFault {
 impl From<AllocError> for CheckFault {
     ghost from_gives = { λ _ e. e ≡ Memory };
 
+    /// Want of memory is what the checker answers where none can be had.
     fn from(_: AllocError) -> CheckFault {
         CheckFault::Memory
     }

@@ -12,8 +12,8 @@ use std::alloc::{AllocError, Global};
 use tc_circuit::{Circuit, Matrix};
 use tc_ring::Omega;
 
-// The matrix of a circuit.
-pub(crate) fn matrix_of(alloc: Global, circuit: &Circuit) -> Result<Matrix, AllocError>
+/// The matrix of a circuit.
+pub fn matrix_of(alloc: Global, circuit: &Circuit) -> Result<Matrix, AllocError>
     requires { h_count_of circuit.now.gates ≤ most_h_gates }
     ensures qubits { IfOk result (λ m. m.qubits ≡ circuit.now.qubits) }
     ensures matrix { IfOk result (λ m. IsMatrixOf circuit.now.qubits circuit.now.gates (grid_matrix m)) }
@@ -25,8 +25,8 @@ pub(crate) fn matrix_of(alloc: Global, circuit: &Circuit) -> Result<Matrix, Allo
     Ok(matrix)
 }
 
-// The number times √2, so many times.
-fn raised(number: Omega, factors: u32) -> Omega
+/// The number times √2, so many times.
+fn raise(number: Omega, factors: u32) -> Omega
     requires few { factors ≤ 120 }
     requires small { IsWithin (2 ^ (120 - factors)) (number_of number) }
     ensures { number_of result ≡ times (power cyclotomics root2 factors) (number_of number) }
@@ -38,14 +38,14 @@ fn raised(number: Omega, factors: u32) -> Omega
     product
 }
 
-// Whether they are one number.
+/// Whether they are one number.
 fn is_equal(a: Omega, b: Omega) -> bool
     ensures { IsTrue result ↔ (number_of a ≡ number_of b) }
 {
     a == b
 }
 
-// Whether the entry of the first matrix is ω^turns times that of the second, both brought to one power of √2.
+/// Whether the entry of the first matrix is ω^turns times that of the second, both brought to one power of √2.
 fn is_same_entry(a: &Matrix, b: &Matrix, turns: u8, row: usize, column: usize) -> bool
     requires turns { turns < 8 }
     requires size { a.now.qubits ≡ b.now.qubits }
@@ -57,13 +57,13 @@ fn is_same_entry(a: &Matrix, b: &Matrix, turns: u8, row: usize, column: usize) -
     let right = b.cell(row, column).times_omega(turns);
     let (low, high) = (a.exponent(), b.exponent());
     if low <= high {
-        is_equal(raised(left, high - low), right)
+        is_equal(raise(left, high - low), right)
     } else {
-        is_equal(left, raised(right, low - high))
+        is_equal(left, raise(right, low - high))
     }
 }
 
-// Whether each entry of the first matrix is ω^turns times that of the second.
+/// Whether each entry of the first matrix is ω^turns times that of the second.
 fn is_same_up_to(a: &Matrix, b: &Matrix, turns: u8) -> bool
     requires turns { turns < 8 }
     requires size { a.now.qubits ≡ b.now.qubits }
@@ -79,8 +79,8 @@ fn is_same_up_to(a: &Matrix, b: &Matrix, turns: u8) -> bool
     true
 }
 
-// Whether the matrices are the same up to one of the eight phases.
-pub(crate) fn is_same(a: &Matrix, b: &Matrix) -> bool
+/// Whether the matrices are the same up to one of the eight phases.
+pub fn is_same(a: &Matrix, b: &Matrix) -> bool
     requires size { a.now.qubits ≡ b.now.qubits }
     requires few { a.now.qubits ≤ 3 }
     ensures { IsTrue result ↔ ((turns : ℕ) × (turns < 8) × SameUpTo (2 ^ a.now.qubits) turns (grid_matrix a.now) (grid_matrix b.now)) }

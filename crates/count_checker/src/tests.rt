@@ -10,7 +10,7 @@ use tc_circuit::Gate::{self, Cx, H, S, Sdg, T, Tdg};
 use tc_circuit::{Circuit, Matrix};
 use tc_ring::Omega;
 
-// Whether a gate's qubits are below n, and those of a cx differ.
+/// Whether a gate's qubits are below n, and those of a cx differ.
 fn fits(n: u8, gate: Gate) -> bool
     ensures { IsTrue result → Fits n gate }
 {
@@ -20,7 +20,7 @@ fn fits(n: u8, gate: Gate) -> bool
     }
 }
 
-// The circuit of the gates.
+/// The circuit of the gates.
 fn circuit_of(rt: &impl Abort, alloc: Global, n: u8, gates: &[Gate]) -> Result<Circuit, AllocError>
     ensures { IfOk result (λ c. c.qubits ≡ n) }
 {
@@ -33,7 +33,7 @@ fn circuit_of(rt: &impl Abort, alloc: Global, n: u8, gates: &[Gate]) -> Result<C
     Ok(circuit)
 }
 
-// What `same` answers for the circuits of the gates.
+/// What `same` answers for the circuits of the gates.
 fn answer(
     rt: &impl Abort,
     alloc: Global,
@@ -80,6 +80,7 @@ const PAIRS: [(u8, &[Gate], u8, &[Gate], bool); 16] = [
     ),
 ];
 
+/// Pairs of circuits, and whether they are the same up to a phase.
 #[test]
 fn pairs_by_hand(rt: HostRuntime) {
     for (n, a, m, b, want) in PAIRS {
@@ -91,6 +92,7 @@ fn pairs_by_hand(rt: HostRuntime) {
     }
 }
 
+/// The limit of h gates, on either side.
 #[test]
 fn many_h_gates(rt: HostRuntime) -> Result<(), Fail> {
     let alloc = rt.alloc();
@@ -113,13 +115,13 @@ fn many_h_gates(rt: HostRuntime) -> Result<(), Fail> {
     Ok(())
 }
 
-// The next number of a linear congruence, and a draw from it.
+/// The next number of a linear congruence, and a draw from it.
 fn draw(state: &mut u32) -> u32 {
     *state = state.wrapping_mul(1_664_525).wrapping_add(1_013_904_223);
     *state >> 16
 }
 
-// A gate on n qubits.
+/// A gate on n qubits.
 fn drawn_gate(state: &mut u32, n: u8) -> Gate {
     let q = (draw(state) % 3) as u8 % n.max(1);
     let other = (q + 1) % n.max(1);
@@ -133,6 +135,7 @@ fn drawn_gate(state: &mut u32, n: u8) -> Gate {
     }
 }
 
+/// The gate that undoes it.
 fn inverse(gate: Gate) -> Gate {
     match gate {
         S(q) => Sdg(q),
@@ -146,7 +149,7 @@ fn inverse(gate: Gate) -> Gate {
 // The gates h s s h, t, h s s h, t, whose matrix is ω times the identity: x t x t.
 const TURN: [Gate; 10] = [H(0), S(0), S(0), H(0), T(0), H(0), S(0), S(0), H(0), T(0)];
 
-// Drawn gates on n qubits.
+/// Drawn gates on n qubits.
 fn drawn_gates(alloc: Global, state: &mut u32, n: u8) -> Result<Vec<Gate>, AllocError> {
     let mut gates = Vec::new(alloc);
     for _ in 0..12 {
@@ -155,7 +158,7 @@ fn drawn_gates(alloc: Global, state: &mut u32, n: u8) -> Result<Vec<Gate>, Alloc
     Ok(gates)
 }
 
-// The gates behind a drawn number of turns by ω, and every third or so followed by another gate and its inverse.
+/// The gates behind a drawn number of turns by ω, and every third or so followed by another gate and its inverse.
 fn with_nothing_added(
     alloc: Global,
     state: &mut u32,
@@ -185,7 +188,7 @@ enum Axis {
     Neither,
 }
 
-// How a gate acts on a qubit, where it does.
+/// How a gate acts on a qubit, where it does.
 fn axis_of(gate: Gate, qubit: u8) -> Option<Axis> {
     match gate {
         H(q) if q == qubit => Some(Axis::Neither),
@@ -196,7 +199,7 @@ fn axis_of(gate: Gate, qubit: u8) -> Option<Axis> {
     }
 }
 
-// Whether the gates commute, since they act alike on each qubit that both act on.
+/// Whether the gates commute, since they act alike on each qubit that both act on.
 fn commute(a: Gate, b: Gate) -> bool {
     for qubit in 0..3 {
         if let (Some(x), Some(y)) = (axis_of(a, qubit), axis_of(b, qubit)) {
@@ -208,7 +211,7 @@ fn commute(a: Gate, b: Gate) -> bool {
     true
 }
 
-// Exchanges about half of the neighbours that commute, and counts those exchanges that change the list.
+/// Exchanges about half of the neighbours that commute, and counts those exchanges that change the list.
 fn exchange_neighbours(state: &mut u32, gates: &mut [Gate]) -> u32 {
     let mut exchanges = 0_u32;
     for place in 1..gates.len() {
@@ -221,7 +224,7 @@ fn exchange_neighbours(state: &mut u32, gates: &mut [Gate]) -> u32 {
     exchanges
 }
 
-// The matrix of the gates.
+/// The matrix of the gates.
 fn matrix_of(rt: &impl Abort, alloc: Global, n: u8, gates: &[Gate]) -> Result<Matrix, AllocError>
     ensures { IfOk result (λ m. m.qubits ≡ n) }
 {
@@ -234,8 +237,8 @@ fn matrix_of(rt: &impl Abort, alloc: Global, n: u8, gates: &[Gate]) -> Result<Ma
     Ok(matrix)
 }
 
-// The coordinates of the product with √2 = ω − ω³, so many times, and then with ω, so many times.
-fn scaled(number: Omega, roots: u32, turns: u32) -> [i128; 4] {
+/// The coordinates of the product with √2 = ω − ω³, so many times, and then with ω, so many times.
+fn scale(number: Omega, roots: u32, turns: u32) -> [i128; 4] {
     let mut x = number.x;
     for step in 0..roots.saturating_add(turns) {
         let [x0, x1, x2, x3] = x;
@@ -253,7 +256,7 @@ fn scaled(number: Omega, roots: u32, turns: u32) -> [i128; 4] {
     x
 }
 
-// Whether each entry of the first, over its power of √2, is ω^turns times that of the second.
+/// Whether each entry of the first, over its power of √2, is ω^turns times that of the second.
 fn are_turned(rt: &impl Abort, a: &Matrix, b: &Matrix, turns: u32) -> bool
     requires { b.now.qubits ≡ a.now.qubits }
 {
@@ -264,14 +267,14 @@ fn are_turned(rt: &impl Abort, a: &Matrix, b: &Matrix, turns: u32) -> bool
             a.cell(place / size, place % size),
             b.cell(place / size, place % size),
         );
-        if scaled(left, b.exponent(), 0) != scaled(right, a.exponent(), turns) {
+        if scale(left, b.exponent(), 0) != scale(right, a.exponent(), turns) {
             return false;
         }
     }
     true
 }
 
-// Whether they are the same up to a phase, by a plain comparison.
+/// Whether they are the same up to a phase, by a plain comparison.
 fn are_plainly_same(
     rt: &impl Abort,
     alloc: Global,
@@ -289,7 +292,7 @@ fn are_plainly_same(
     Ok(false)
 }
 
-// Drawn gates, and the same with nothing added and neighbours exchanged: half of the pairs unchanged, and half with one gate drawn anew.
+/// Drawn gates, and the same with nothing added and neighbours exchanged: half of the pairs unchanged, and half with one gate drawn anew.
 #[test]
 fn pairs_from_numbers(rt: HostRuntime) -> Result<(), Fail> {
     let alloc = rt.alloc();

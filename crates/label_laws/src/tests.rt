@@ -5,6 +5,7 @@ use tc_ring::Root2;
 /// 2^64 − 5.
 const MINUS_FIVE: u64 = 0xffff_ffff_ffff_fffb;
 
+/// Columns of a channel, and their folds.
 #[test]
 fn columns_have_these_folds(rt: HostRuntime) -> Result<(), Fail> {
     let wholes = [1_000_003, 7, MINUS_FIVE, 1 << 63];

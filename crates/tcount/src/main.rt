@@ -37,6 +37,7 @@ fn status_of<H: Threads + Sync>(rt: &HostRuntime, th: &H) -> Result<Status, Allo
     Ok(run(th, rt.alloc(), &texts, &mut source, &mut sink, &OpenWay))
 }
 
+/// Hands the words, standard input and standard output to `run`, and ends with its status.
 fn main(rt: HostRuntime) -> ExitCode {
     let status = status_of(&rt, &rt).unwrap_or(Status::NoMemory);
     ExitCode::from(status.code())

@@ -23,7 +23,7 @@ use tc_circuit::Circuit;
 /// Draws numbers that seem random, each from the state that the one before left: a linear congruential generator with the
 /// constants of the C standard's example of rand.
 #[derive(Drop)]
-pub(crate) struct Generator {
+pub struct Generator {
     state: u64,
     ghost small: { state < 2 ^ 31 },
 }
@@ -32,7 +32,7 @@ impl Generator {
     ghost use Rattle.tcount_top.specs.Bench.{next_state};
 
     /// The generator of a seed, which has drawn nothing.
-    pub(crate) fn new(seed: u32) -> Generator
+    pub fn new(seed: u32) -> Generator
         requires { seed < 2 ^ 31 }
         ensures { result.state ≡ seed }
     {
@@ -40,7 +40,7 @@ impl Generator {
     }
 
     /// The next number, below 32,768.
-    pub(crate) fn draw(&mut self) -> u64
+    pub fn draw(&mut self) -> u64
         ensures state { self.new.state ≡ next_state self.old.state }
         ensures number { result ≡ drawn self.new.state }
     {
@@ -156,7 +156,7 @@ fn push_above(line: &mut String, bound: u8) -> Result<(), AllocError>
 
 /// The status and the bytes of the outcome for the circuit of `t` letters on `n` qubits that a seed makes, and a bound: its
 /// least word is looked for by so many workers.
-pub(crate) fn bench<H: Threads + Sync, G: Turnstile + Sync>(
+pub fn bench<H: Threads + Sync, G: Turnstile + Sync>(
     th: &H,
     alloc: Global,
     n: u8,
@@ -175,7 +175,8 @@ pub(crate) fn bench<H: Threads + Sync, G: Turnstile + Sync>(
     requires crew { workers ≤ 8 }
     ensures { IfOk result (λ r. BenchOut n t seed bound r.0 r.1.items) }
 {
-    // Called for their contracts: laws.
+    // Called for their contracts: the channel of the circuit is its word's, and the least word has as many letters as the
+    // least T-count.
     tables_compare();
     tables_are_classes();
     least_counts_are_lengths();

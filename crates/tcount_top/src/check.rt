@@ -15,7 +15,7 @@ use tc_circuit::Circuit;
 
 /// Why the two programs of a text are not compared.
 #[derive(Drop)]
-pub(crate) enum NotCompared {
+pub enum NotCompared {
     /// The text isn't two programs.
     NoHalves,
     /// A byte is bad, or a program is refused.
@@ -37,6 +37,7 @@ pub(crate) enum NotCompared {
 impl From<ReadFault> for NotCompared {
     ghost from_gives = { λ fault why. why ≡ unread fault };
 
+    /// A text that is refused isn't compared.
     fn from(fault: ReadFault) -> NotCompared {
         match fault {
             ReadFault::Refused { number, place } => NotCompared::Refused { number, place },
@@ -48,6 +49,7 @@ impl From<ReadFault> for NotCompared {
 impl From<CheckFault> for NotCompared {
     ghost from_gives = { λ fault why. why ≡ unchecked fault };
 
+    /// Circuits that the checker refuses aren't compared.
     fn from(fault: CheckFault) -> NotCompared {
         match fault {
             CheckFault::TooManyH { count } => NotCompared::TooManyH { count },
@@ -63,7 +65,7 @@ fn second_of(alloc: Global, text: &[u8], cut: usize) -> Result<Circuit, NotCompa
     ensures ok { IfOk result (Reads (drop cut text.now)) }
     ensures err { IfErr result (λ why. (c : Gates) → HasHalves text.now cut → Reads (take cut text.now) c → IsReason text.now why) }
 {
-    // Called for its contract: a law.
+    // Called for its contract: the place of a refusal stands in the text.
     refusals_stand_in_texts();
     match read(alloc, &text[cut..]) {
         Ok(circuit) => Ok(circuit),
@@ -81,7 +83,7 @@ fn is_same(alloc: Global, text: &[u8]) -> Result<bool, NotCompared>
     ensures ok { IfOk result (IsVerdict text.now) }
     ensures err { IfErr result (IsReason text.now) }
 {
-    // Called for its contract: a law.
+    // Called for its contract: what a text reads as is on one to three qubits.
     read_circuits_are_small();
     let Some(cut) = halves(alloc, text)? else {
         return Err(NotCompared::NoHalves);
@@ -93,7 +95,7 @@ fn is_same(alloc: Global, text: &[u8]) -> Result<bool, NotCompared>
 }
 
 /// The status and the bytes of the outcome for a text of at most 65,536 bytes.
-pub(crate) fn check(alloc: Global, text: &[u8]) -> Result<(Status, Vec<u8>), AllocError>
+pub fn check(alloc: Global, text: &[u8]) -> Result<(Status, Vec<u8>), AllocError>
     requires short { length text.now ≤ longest }
     ensures { IfOk result (λ r. CheckOut text.now r.0 r.1.items) }
 {

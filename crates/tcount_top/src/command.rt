@@ -5,7 +5,7 @@ ghost use Rattle.tcount_top.specs.Words.{texts_of, IsNumber, Spell, IsCommand};
 
 /// What the words of the command line ask of a text.
 #[derive(Clone, Copy, Debug, PartialEq, Eq)]
-pub(crate) enum TextCommand {
+pub enum TextCommand {
     /// A circuit with the least T-count of the text's circuit, where it is at most the bound.
     Synth {
         /// The most T gates.
@@ -19,7 +19,7 @@ pub(crate) enum TextCommand {
 
 /// What the words of the command line ask for.
 #[derive(Clone, Copy, Debug, PartialEq, Eq)]
-pub(crate) enum Command {
+pub enum Command {
     /// An answer to the text that the source gives.
     OverText(TextCommand),
     /// The sizes of levels.
@@ -116,7 +116,7 @@ fn check(name: &str) -> Option<Command>
 }
 
 /// The number of the last level on so many qubits, at most: words have so many letters.
-pub(crate) fn most_letters(qubits: u8) -> u8
+pub fn most_letters(qubits: u8) -> u8
     requires some { 1 ≤ qubits }
     requires few { qubits ≤ 3 }
     ensures { result ≡ most_letters qubits }
@@ -180,7 +180,7 @@ fn bench(
 
 impl Command {
     /// The command that words are. It takes no memory.
-    pub(crate) fn of_words(words: &[&str]) -> Option<Command>
+    pub fn of_words(words: &[&str]) -> Option<Command>
         ensures some { IfSome result (λ command. Spell (texts_of words.now) command) }
         ensures none { IfNone result (IsCommand (texts_of words.now) → ⊥) }
     {

@@ -24,6 +24,8 @@ pub fn one_command()
 pub fn printed_once()
     ensures { PrintedOnce }
 {
+    // Called for their contracts: circuits of one matrix have one channel, so one least word, and what is left behind that
+    // word is one channel too.
     surd_laws_hold();
     tables_compare();
     tables_are_classes();
@@ -41,6 +43,8 @@ pub fn one_outcome()
     ensures one { OneOutcome }
     ensures counted { LeastCountsExist }
 {
+    // Called for their contracts: a text reads as one circuit or has one reason, circuits of one matrix have one channel, and
+    // the print is one for each channel.
     circuits_have_one_channel();
     one_channel_where_same();
     one_cut();
@@ -56,6 +60,8 @@ pub fn one_outcome()
 pub fn outcomes_exist()
     ensures { OutcomesExist }
 {
+    // Called for their contracts: each circuit has a least word, what is left behind it is the channel of a circuit without T
+    // gates, and two circuits are the same or not.
     letters_come_off();
     tables_compare();
     circuits_have_one_channel();
@@ -74,6 +80,7 @@ pub fn outcomes_exist()
 pub fn answers_are_complete()
     ensures { AnswersAreComplete }
 {
+    // Called for their contracts: a text has one reading, and one cut into two programs.
     one_halving();
     one_reading();
 }
@@ -83,6 +90,7 @@ pub fn answers_are_complete()
 pub fn one_answer_for_one_matrix()
     ensures { OneAnswerForOneMatrix }
 {
+    // Called for their contracts: circuits of one matrix have one channel, so one least T-count, and one print.
     circuits_have_one_channel();
     one_channel_where_same();
     one_reading();

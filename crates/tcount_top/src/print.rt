@@ -29,7 +29,7 @@ use tc_circuit::{Circuit, Gate};
 const LONGEST_BLOCK: usize = 17;
 
 /// The letters of a word.
-pub(crate) fn letters_of(alloc: Global, word: &Word2) -> Result<Vec<Pauli>, AllocError>
+pub fn letters_of(alloc: Global, word: &Word2) -> Result<Vec<Pauli>, AllocError>
     ensures qubits { IfOk result (λ v. All (λ p. p.qubits ≡ word.now.first.qubits) v.items) }
     ensures other { IfOk result (λ v. All (λ p. p.code ≢ 0) v.items) }
     ensures codes { IfOk result (λ v. codes_of v.items
@@ -51,6 +51,7 @@ fn take_off(channel: &mut Channel, letters: &[Pauli])
     ensures table { SameTable channel.old.qubits (scaled channel.new)
         (removed channel.old.qubits (scaled channel.old) (codes_of letters.now)) }
 {
+    // Called for its contract: what is left without a letter is that of the rest of the word.
     letters_come_off();
     for letter in letters {
         channel.left_rotation_inverse(*letter);
@@ -64,7 +65,7 @@ fn left_without(alloc: Global, channel: &Channel, letters: &[Pauli]) -> Result<C
     requires room { channel.now.exponent + length letters.now ≤ most_exponent }
     ensures { IfOk result (λ left. IsLeft channel.now.qubits (scaled channel.now) (codes_of letters.now) left) }
 {
-    // Called for its contract: a law.
+    // Called for its contract: equal tables may stand for one another.
     tables_compare();
     let mut left = Channel::identity(alloc, channel.qubits())?;
     left.copy_from(channel);
@@ -75,7 +76,7 @@ fn left_without(alloc: Global, channel: &Channel, letters: &[Pauli]) -> Result<C
 }
 
 /// The blocks of letters, the last letter's first.
-pub(crate) fn blocks_of(alloc: Global, n: u8, letters: &[Pauli]) -> Result<Vec<Gate>, AllocError>
+pub fn blocks_of(alloc: Global, n: u8, letters: &[Pauli]) -> Result<Vec<Gate>, AllocError>
     requires qubits { All (λ p. p.qubits ≡ n) letters.now }
     requires other { All (λ p. p.code ≢ 0) letters.now }
     requires few { length letters.now ≤ 44 }
@@ -92,7 +93,7 @@ pub(crate) fn blocks_of(alloc: Global, n: u8, letters: &[Pauli]) -> Result<Vec<G
 }
 
 /// Puts gates behind a circuit.
-pub(crate) fn push_all(circuit: &mut Circuit, gates: &[Gate]) -> Result<(), AllocError>
+pub fn push_all(circuit: &mut Circuit, gates: &[Gate]) -> Result<(), AllocError>
     requires { IsCircuit circuit.old.qubits gates.now }
     ensures qubits { circuit.new.qubits ≡ circuit.old.qubits }
     ensures gates { OnOk result (circuit.new.gates ≡ circuit.old.gates ++ gates.now) }
@@ -123,7 +124,8 @@ pub fn printed(alloc: Global, target: &Channel, word: &Word2) -> Result<Vec<u8>,
         → IsBuiltOf c.qubits (steps_of c.gates) (scaled target.now)
         → ShowsLike c (length (spelled word.now.first.letters word.now.middle word.now.last.letters)) bytes.items) }
 {
-    // Called for their contracts: laws.
+    // Called for their contracts: what is left of a channel behind its least word is a Clifford operator's, and its circuit
+    // with the blocks behind it, as a text, reads as itself.
     tables_compare();
     exponents_bound_lengths();
     letters_come_off();

@@ -18,7 +18,7 @@ use tc_circuit::Circuit;
 
 /// A circuit's channel, and the least word of its coset where that has at most `bound` letters, which so many workers look
 /// for.
-pub(crate) fn search<H: Threads + Sync, G: Turnstile + Sync>(
+pub fn search<H: Threads + Sync, G: Turnstile + Sync>(
     th: &H,
     alloc: Global,
     circuit: &Circuit,

@@ -67,7 +67,7 @@ fn sizes_line(alloc: Global, levels: &Levels) -> Result<Vec<u8>, AllocError>
 }
 
 /// The line of the sizes of levels 0 to `top` on so many qubits, which so many workers fill.
-pub(crate) fn sizes<H: Threads + Sync, G: Turnstile + Sync>(
+pub fn sizes<H: Threads + Sync, G: Turnstile + Sync>(
     th: &H,
     alloc: Global,
     qubits: u8,

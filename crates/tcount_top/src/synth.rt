@@ -34,6 +34,8 @@ fn answer_within<H: Threads + Sync, G: Turnstile + Sync>(
     ensures { IfOk result (λ r. (text : List ℕ) → length text ≤ longest → Reads text circuit.now
         → SynthOut bound text r.0 r.1.items) }
 {
+    // Called for their contracts: the least word has as many letters as the least T-count, and a text that reads stays within
+    // the limits.
     least_counts_are_lengths();
     read_circuits_are_small();
     let (channel, answer) = search(th, alloc, circuit, bound, workers, gate)?;
@@ -73,7 +75,7 @@ fn answer_for<H: Threads + Sync, G: Turnstile + Sync>(
 }
 
 /// The status and the bytes of the outcome for a text of at most 65,536 bytes and a bound.
-pub(crate) fn synth<H: Threads + Sync, G: Turnstile + Sync>(
+pub fn synth<H: Threads + Sync, G: Turnstile + Sync>(
     th: &H,
     alloc: Global,
     text: &[u8],
@@ -86,6 +88,7 @@ pub(crate) fn synth<H: Threads + Sync, G: Turnstile + Sync>(
     requires few { workers ≤ 8 }
     ensures { IfOk result (λ r. SynthOut bound text.now r.0 r.1.items) }
 {
+    // Called for its contract: what a text reads as has few T gates.
     read_circuits_are_small();
     match read(alloc, text) {
         Ok(circuit) => answer_for(th, alloc, &circuit, bound, workers, gate),

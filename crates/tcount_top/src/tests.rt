@@ -20,7 +20,7 @@ const CONTROLLED_S: &str =
 const CONTROLLED_S_PRINTED: &str =
     "// t-count 3\n// word IZ ZI ZZ\nOPENQASM 2.0;\ninclude \"qelib1.inc\";\nqreg q[2];\nh q[1];\ns q[1];\nh q[1];\ns q[1];\ns q[0];\ns q[0];\ncx q[0],q[1];\nh q[1];\ns q[0];\ncx q[0],q[1];\nt q[1];\ncx q[0],q[1];\nt q[1];\nt q[0];\n";
 
-// The status of a run over a text, and the bytes that it writes.
+/// The status of a run over a text, and the bytes that it writes.
 fn answer<H: Threads + Sync, G: Turnstile + Sync>(
     th: &H,
     alloc: Global,
@@ -34,7 +34,7 @@ fn answer<H: Threads + Sync, G: Turnstile + Sync>(
     Ok((status, Vec::from_slice(alloc, sink.bytes())?))
 }
 
-// Words that are no command.
+/// Words that are no command.
 #[test]
 fn usage(rt: HostRuntime) -> Result<(), Fail> {
     let line = "usage: synth M W | check | levels N K W | bench N T SEED M W\n";
@@ -76,7 +76,7 @@ fn usage(rt: HostRuntime) -> Result<(), Fail> {
     Ok(())
 }
 
-// A bound, a text, and the status and the bytes that are the outcome.
+/// A bound, a text, and the status and the bytes that are the outcome.
 #[test]
 fn outcomes(rt: HostRuntime) -> Result<(), Fail> {
     let rows = [
@@ -176,7 +176,7 @@ fn outcomes(rt: HostRuntime) -> Result<(), Fail> {
     Ok(())
 }
 
-// Bounds, and texts that are refused: at the reading, and behind it where the bound is above the limit.
+/// Bounds, and texts that are refused: at the reading, and behind it where the bound is above the limit.
 #[test]
 fn refusals(rt: HostRuntime) -> Result<(), Fail> {
     let rows = [
@@ -284,8 +284,8 @@ fn refusals(rt: HostRuntime) -> Result<(), Fail> {
     Ok(())
 }
 
-// A text: its front, and a line as often as `times` says.
-fn repeated(alloc: Global, front: &str, line: &str, times: usize) -> Result<Vec<u8>, AllocError> {
+/// A text: its front, and a line as often as `times` says.
+fn repeat(alloc: Global, front: &str, line: &str, times: usize) -> Result<Vec<u8>, AllocError> {
     let mut text = Vec::from_slice(alloc, front.as_bytes())?;
     for _ in 0..times {
         text.extend_from_slice(line.as_bytes())?;
@@ -293,7 +293,7 @@ fn repeated(alloc: Global, front: &str, line: &str, times: usize) -> Result<Vec<
     Ok(text)
 }
 
-// Long texts, and texts at the limits: a front, a line and how often it stands, and the outcome.
+/// Long texts, and texts at the limits: a front, a line and how often it stands, and the outcome.
 #[test]
 fn limits(rt: HostRuntime) -> Result<(), Fail> {
     let one = "OPENQASM 2.0;\nqreg q[1];\n";
@@ -320,7 +320,7 @@ fn limits(rt: HostRuntime) -> Result<(), Fail> {
         ("", " ", 65537, Status::Refused, "refused 14\n"),
     ];
     for (front, line, times, status, bytes) in rows {
-        let text = repeated(rt.alloc(), front, line, times)?;
+        let text = repeat(rt.alloc(), front, line, times)?;
         let (answered, written) = answer(&rt, rt.alloc(), &["synth", "0", "1"], &text, &OpenWay)?;
         assert_eq!(rt; answered, status, "{line:?} {times}");
         assert!(rt; written.as_slice() == bytes.as_bytes(), "{line:?} {times}");
@@ -328,7 +328,7 @@ fn limits(rt: HostRuntime) -> Result<(), Fail> {
     Ok(())
 }
 
-// Texts of two programs, and what `check` answers to them.
+/// Texts of two programs, and what `check` answers to them.
 #[test]
 fn comparisons(rt: HostRuntime) -> Result<(), Fail> {
     let rows = [
@@ -409,7 +409,7 @@ fn comparisons(rt: HostRuntime) -> Result<(), Fail> {
     Ok(())
 }
 
-// Two programs with many h gates: how many each has, and what `check` answers; and texts that are too long.
+/// Two programs with many h gates: how many each has, and what `check` answers; and texts that are too long.
 #[test]
 fn many_h_gates(rt: HostRuntime) -> Result<(), Fail> {
     let one = "OPENQASM 2.0;\nqreg q[1];\n";
@@ -421,8 +421,8 @@ fn many_h_gates(rt: HostRuntime) -> Result<(), Fail> {
         (120, 119, Status::Above, "different\n"),
     ];
     for (first, second, status, bytes) in rows {
-        let mut text = repeated(rt.alloc(), one, "h q[0];\n", first)?;
-        let behind = repeated(rt.alloc(), one, "h q[0];\n", second)?;
+        let mut text = repeat(rt.alloc(), one, "h q[0];\n", first)?;
+        let behind = repeat(rt.alloc(), one, "h q[0];\n", second)?;
         text.extend_from_slice(&behind)?;
         let (answered, written) = answer(&rt, rt.alloc(), &["check"], &text, &OpenWay)?;
         assert_eq!(rt; answered, status, "{first} and {second}");
@@ -432,7 +432,7 @@ fn many_h_gates(rt: HostRuntime) -> Result<(), Fail> {
         );
     }
     for (spaces, bytes) in [(65536, "refused 16\n"), (65537, "refused 14\n")] {
-        let text = repeated(rt.alloc(), "", " ", spaces)?;
+        let text = repeat(rt.alloc(), "", " ", spaces)?;
         let (status, written) = answer(&rt, rt.alloc(), &["check"], &text, &OpenWay)?;
         assert_eq!(rt; status, Status::Refused, "{spaces}");
         assert!(rt; written.as_slice() == bytes.as_bytes(), "{spaces}");
@@ -440,7 +440,7 @@ fn many_h_gates(rt: HostRuntime) -> Result<(), Fail> {
     Ok(())
 }
 
-// Whether `check` says of two programs that they are the same.
+/// Whether `check` says of two programs that they are the same.
 fn are_same<H: Threads + Sync>(
     th: &H,
     alloc: Global,
@@ -453,7 +453,7 @@ fn are_same<H: Threads + Sync>(
     Ok(status == Status::Found && bytes.as_slice() == b"same\n".as_slice())
 }
 
-// The bytes don't depend on the number of workers.
+/// The bytes don't depend on the number of workers.
 #[test]
 fn any_workers(rt: HostRuntime) -> Result<(), Fail> {
     for workers in ["1", "2", "3", "8"] {
@@ -468,7 +468,7 @@ fn any_workers(rt: HostRuntime) -> Result<(), Fail> {
     Ok(())
 }
 
-// The sizes of levels.
+/// The sizes of levels.
 #[test]
 fn sizes_of_levels(rt: HostRuntime) -> Result<(), Fail> {
     let rows = [
@@ -496,7 +496,7 @@ fn sizes_of_levels(rt: HostRuntime) -> Result<(), Fail> {
     Ok(())
 }
 
-// Each level of two qubits, to the last.
+/// Each level of two qubits, to the last.
 #[test]
 fn all_levels_of_two_qubits(rt: HostRuntime) -> Result<(), Fail> {
     let (status, bytes) = answer(&rt, rt.alloc(), &["levels", "2", "6", "1"], b"", &OpenWay)?;
@@ -505,6 +505,7 @@ fn all_levels_of_two_qubits(rt: HostRuntime) -> Result<(), Fail> {
     Ok(())
 }
 
+/// Two workers fill a level at the same time.
 #[test]
 fn two_workers_meet(rt: HostRuntime) -> Result<(), Fail> {
     let gate = Meeting::new();
@@ -515,7 +516,7 @@ fn two_workers_meet(rt: HostRuntime) -> Result<(), Fail> {
     Ok(())
 }
 
-// The level and the totals 0 to 2 are one block each, and the 225 positions of the total 3 are four.
+/// The level and the totals 0 to 2 are one block each, and the 225 positions of the total 3 are four.
 #[test]
 fn two_searchers_meet(rt: HostRuntime) -> Result<(), Fail> {
     let gate = Meeting::new();
@@ -533,7 +534,7 @@ fn two_searchers_meet(rt: HostRuntime) -> Result<(), Fail> {
     Ok(())
 }
 
-// A Toffoli gate takes seven T gates, and no circuit on its three qubits has fewer. What is printed for it is the same.
+/// A Toffoli gate takes seven T gates, and no circuit on its three qubits has fewer. What is printed for it is the same.
 #[test]
 fn toffoli(rt: HostRuntime) -> Result<(), Fail> {
     let text = b"OPENQASM 2.0;\nqreg q[3];\nccx q[0],q[1],q[2];\n".as_slice();
@@ -547,7 +548,7 @@ fn toffoli(rt: HostRuntime) -> Result<(), Fail> {
     Ok(())
 }
 
-// A controlled controlled z by a definition takes seven T gates, too.
+/// A controlled controlled z by a definition takes seven T gates, too.
 #[test]
 fn defined_gate(rt: HostRuntime) -> Result<(), Fail> {
     let text =
@@ -559,8 +560,8 @@ fn defined_gate(rt: HostRuntime) -> Result<(), Fail> {
     Ok(())
 }
 
-// A circuit by a seed has at most as many T gates as are in its text, has one print whatever the number of workers, and the
-// print is its own and the same.
+/// A circuit by a seed has at most as many T gates as are in its text, has one print whatever the number of workers, and the
+/// print is its own and the same.
 #[test]
 fn made_circuits(rt: HostRuntime) -> Result<(), Fail> {
     for seed in 0..200u64 {
@@ -581,7 +582,7 @@ fn made_circuits(rt: HostRuntime) -> Result<(), Fail> {
     Ok(())
 }
 
-// A second read that fails leaves nothing written, and a second write that fails leaves what the first one took.
+/// A second read that fails leaves nothing written, and a second write that fails leaves what the first one took.
 #[test]
 fn faults(rt: HostRuntime) -> Result<(), Fail> {
     let alloc = rt.alloc();
@@ -605,7 +606,7 @@ fn faults(rt: HostRuntime) -> Result<(), Fail> {
     Ok(())
 }
 
-// Over streams of std, which tell no content.
+/// Over streams of std, which tell no content.
 #[test]
 fn over_streams(rt: HostRuntime) -> Result<(), Fail> {
     let text: &[u8] = b"OPENQASM 2.0;\nqreg q[1];\nt q[0];\n";
@@ -620,6 +621,7 @@ fn over_streams(rt: HostRuntime) -> Result<(), Fail> {
     Ok(())
 }
 
+/// The statuses as the program's exit codes.
 #[test]
 fn codes(rt: HostRuntime) {
     let rows = [
@@ -636,7 +638,7 @@ fn codes(rt: HostRuntime) {
     }
 }
 
-// Gates of an angle, as statements and in bodies, and what is printed for them.
+/// Gates of an angle, as statements and in bodies, and what is printed for them.
 #[test]
 fn turns(rt: HostRuntime) -> Result<(), Fail> {
     let rows = [
@@ -657,7 +659,7 @@ fn turns(rt: HostRuntime) -> Result<(), Fail> {
         ),
     ];
     for (bound, line, bytes) in rows {
-        let text = repeated(rt.alloc(), "OPENQASM 2.0;\nqreg q[1];\n", line, 1)?;
+        let text = repeat(rt.alloc(), "OPENQASM 2.0;\nqreg q[1];\n", line, 1)?;
         let (status, written) = answer(&rt, rt.alloc(), &["synth", bound, "1"], &text, &OpenWay)?;
         assert_eq!(rt; status, Status::Found, "{line:?}");
         assert!(rt; written.as_slice() == bytes.as_bytes(), "{line:?}");
@@ -665,7 +667,7 @@ fn turns(rt: HostRuntime) -> Result<(), Fail> {
     Ok(())
 }
 
-// What is no turn by a whole multiple of pi/4, and the refusal.
+/// What is no turn by a whole multiple of pi/4, and the refusal.
 #[test]
 fn refused_turns(rt: HostRuntime) -> Result<(), Fail> {
     let rows = [
@@ -677,7 +679,7 @@ fn refused_turns(rt: HostRuntime) -> Result<(), Fail> {
         ("rz(pi/4) q[0],q[0];\n", "refused 11 at 25\n"),
     ];
     for (line, bytes) in rows {
-        let text = repeated(rt.alloc(), "OPENQASM 2.0;\nqreg q[1];\n", line, 1)?;
+        let text = repeat(rt.alloc(), "OPENQASM 2.0;\nqreg q[1];\n", line, 1)?;
         let (status, written) = answer(&rt, rt.alloc(), &["synth", "0", "1"], &text, &OpenWay)?;
         assert_eq!(rt; status, Status::Refused, "{line:?}");
         assert!(rt; written.as_slice() == bytes.as_bytes(), "{line:?}");
@@ -685,7 +687,7 @@ fn refused_turns(rt: HostRuntime) -> Result<(), Fail> {
     Ok(())
 }
 
-// A controlled h takes two T gates.
+/// A controlled h takes two T gates.
 #[test]
 fn controlled_h(rt: HostRuntime) -> Result<(), Fail> {
     let text = b"OPENQASM 2.0;\nqreg q[2];\nch q[0],q[1];\n".as_slice();
@@ -696,7 +698,7 @@ fn controlled_h(rt: HostRuntime) -> Result<(), Fail> {
     Ok(())
 }
 
-// A controlled swap takes seven.
+/// A controlled swap takes seven.
 #[test]
 fn controlled_swap(rt: HostRuntime) -> Result<(), Fail> {
     let text = b"OPENQASM 2.0;\nqreg q[3];\ncswap q[0],q[1],q[2];\n".as_slice();

@@ -38,6 +38,7 @@ fn of_two_qubits(wholes: &[u64; 16], parts: &[u64; 16], commuting: u16, p: usize
     divisions(wholes, parts, &commutes, p)
 }
 
+/// Words, a letter in front of each, and how often its rotation divides by √2.
 #[test]
 fn letters_divide_so_often(rt: HostRuntime) -> Result<(), Fail> {
     // Whole parts, parts of √2, the rows that commute with the letter, the letter, and how often its rotation's product was

@@ -8,7 +8,7 @@ use std::test::Fail;
 use std::thread::Threads;
 use steal_sweep::OpenWay;
 
-// What is drawn first by the seed 0.
+/// What is drawn first by the seed 0.
 #[test]
 fn first_draws(rt: HostRuntime) {
     let mut generator = Generator::new(0);
@@ -17,7 +17,7 @@ fn first_draws(rt: HostRuntime) {
     }
 }
 
-// Whether the outcome for these numbers is this one, by one worker and by two.
+/// Whether the outcome for these numbers is this one, by one worker and by two.
 fn answers<H: Threads + Sync>(
     th: &H,
     alloc: Global,
@@ -35,6 +35,7 @@ fn answers<H: Threads + Sync>(
     Ok(true)
 }
 
+/// Numbers, a bound, and the line that is written for the circuit that they make.
 #[test]
 fn lines(rt: HostRuntime) -> Result<(), Fail> {
     let alloc = rt.alloc();
@@ -57,7 +58,7 @@ fn lines(rt: HostRuntime) -> Result<(), Fail> {
     Ok(())
 }
 
-// A made circuit has a T gate for each letter, so a bound of as many suffices.
+/// A made circuit has a T gate for each letter, so a bound of as many suffices.
 #[test]
 fn bounds_of_as_many_letters(rt: HostRuntime) -> Result<(), Fail> {
     let alloc = rt.alloc();
@@ -68,6 +69,7 @@ fn bounds_of_as_many_letters(rt: HostRuntime) -> Result<(), Fail> {
     Ok(())
 }
 
+/// Circuits of 44 letters on one, two and three qubits.
 #[test]
 fn forty_four_letters(rt: HostRuntime) -> Result<(), Fail> {
     let alloc = rt.alloc();

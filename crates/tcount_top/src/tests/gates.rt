@@ -32,7 +32,7 @@ impl Meeting {
         self.passes.load(Ordering::SeqCst)
     }
 
-    // Raises one flag, looks for the other for a while, and lowers the own one again.
+    /// Raises one flag, looks for the other for a while, and lowers the own one again.
     fn enter(&self, mine: &AtomicU64, other: &AtomicU64) {
         mine.store(1, Ordering::SeqCst);
         for _ in 0..200_000_000 {
@@ -46,6 +46,7 @@ impl Meeting {
 }
 
 impl Turnstile for Meeting {
+    /// Counts the pass, and looks out for the other worker.
     fn pass(&self, worker: u32, _turn: u64) {
         self.passes.fetch_add(1, Ordering::SeqCst);
         if worker == 0 {

@@ -32,7 +32,7 @@ fn answer_where<H: Threads + Sync>(
     Ok((status, Vec::from_slice(alloc, sink.bytes())?))
 }
 
-// The text takes five reads, and the sixth finds its end.
+/// The text takes five reads, and the sixth finds its end.
 #[test]
 fn each_read_fails_in_turn(rt: HostRuntime) -> Result<(), Fail> {
     for call in 1..=6u64 {
@@ -46,7 +46,7 @@ fn each_read_fails_in_turn(rt: HostRuntime) -> Result<(), Fail> {
     Ok(())
 }
 
-// What the writes before the failing one took is written, 16 bytes each.
+/// What the writes before the failing one took is written, 16 bytes each.
 #[test]
 fn each_write_fails_in_turn(rt: HostRuntime) -> Result<(), Fail> {
     let whole = CONTROLLED_S_PRINTED.as_bytes();
@@ -61,6 +61,7 @@ fn each_write_fails_in_turn(rt: HostRuntime) -> Result<(), Fail> {
     Ok(())
 }
 
+/// A sink that takes nothing fails, with nothing written.
 #[test]
 fn a_sink_without_room(rt: HostRuntime) -> Result<(), Fail> {
     let (status, bytes) = answer_where(&rt, rt.alloc(), 0, &[], &[])?;
@@ -69,6 +70,7 @@ fn a_sink_without_room(rt: HostRuntime) -> Result<(), Fail> {
     Ok(())
 }
 
+/// One worker comes late before one of its blocks, and the bytes are the same.
 #[test]
 fn each_worker_comes_late(rt: HostRuntime) -> Result<(), Fail> {
     for worker in 0..3u32 {
@@ -96,7 +98,7 @@ fn draw(state: &mut u32) -> u32 {
     *state >> 16
 }
 
-// One of four workers comes late before one of its blocks, by up to 250,000 counts.
+/// One of four workers comes late before one of its blocks, by up to 250,000 counts.
 #[test]
 fn a_hundred_delays(rt: HostRuntime) -> Result<(), Fail> {
     let words = ["synth", "12", "4"];

@@ -5,7 +5,7 @@ use std::alloc::{AllocError, Global};
 use std::fmt::Write;
 
 /// A number that seems random, from a seed and the numbers before it (the mixing step of SplitMix64).
-fn mixed(seed: u64, number: u64) -> u64 {
+fn mix(seed: u64, number: u64) -> u64 {
     let mut z = seed.wrapping_add(number.wrapping_mul(0x9e37_79b9_7f4a_7c15));
     z = (z ^ (z >> 30)).wrapping_mul(0xbf58_476d_1ce4_e5b9);
     z = (z ^ (z >> 27)).wrapping_mul(0x94d0_49bb_1331_11eb);
@@ -32,7 +32,7 @@ fn push_layer(text: &mut String, qubits: u64, seed: u64, number: u64) -> Result<
     requires some { 0 < qubits }
     requires few { qubits ≤ 3 }
 {
-    let drawn = mixed(seed, number);
+    let drawn = mix(seed, number);
     push_clifford(text, qubits, drawn >> 8)?;
     let qubit = (drawn >> 40) % qubits;
     write!(text, "t q[{qubit}];\n")?;
@@ -65,7 +65,7 @@ fn count_by(seed: u64, qubits: u64) -> u64
     if seed % 20 == 1 {
         4
     } else {
-        mixed(seed, 0) % (7 - qubits)
+        mix(seed, 0) % (7 - qubits)
     }
 }
 
@@ -77,6 +77,6 @@ pub fn circuit(alloc: Global, seed: u64) -> Result<(Vec<u8>, &'static str), Allo
     for number in 0..count {
         push_layer(&mut text, qubits, seed, number)?;
     }
-    push_clifford(&mut text, qubits, mixed(seed, count))?;
+    push_clifford(&mut text, qubits, mix(seed, count))?;
     Ok((text.into_bytes(), word_of(count)))
 }

@@ -3,7 +3,7 @@ use Rattle.ring_laws.specs.Ring.{power}
 use Rattle.ring_laws.specs.Cyclotomic.{cyclotomics, times, root2}
 use Rattle.tc_ring.specs.Bounds.{IsWithin}
 use Rattle.tc_ring.specs.Omega.{number_of}
-use Rattle.count_checker.proofs.matrices.raised.Given as goal
+use Rattle.count_checker.proofs.matrices.raise.Given as goal
 
 abbrev pub invariant-loop : goal.invariant-loop
 invariant-loop l = record {

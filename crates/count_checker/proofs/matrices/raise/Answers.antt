@@ -2,7 +2,7 @@ use Rattle.std.proofs.Common.{◌+◌, ◌-◌, ◌^◌, ◌∙◌, ap, arith}
 use Rattle.ring_laws.specs.Cyclotomic.{times, root2}
 use Rattle.tc_ring.specs.Omega.{number_of}
 use Rattle.count_checker.proofs.Entries.{no_factor, one_factor, within_last, within_twice, within_zero}
-use Rattle.count_checker.proofs.matrices.raised.Goals as goal
+use Rattle.count_checker.proofs.matrices.raise.Goals as goal
 
 pub loop-init : goal.loop-init
 loop-init c = record { value = no_factor (number_of c.args.number); small = within_zero c.args.factors (number_of c.args.number) c.requires.small }
