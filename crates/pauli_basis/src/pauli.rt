@@ -141,6 +141,7 @@ impl Pauli {
 impl fmt::Display for Pauli {
     ghost output = { λ p. Some (pauli_text p.qubits p.code) };
 
+    /// Writes the letters, that of the highest qubit first.
     fn fmt<W: fmt::Write>(&self, f: &mut fmt::Formatter<W>) -> fmt::Result {
         for q in (0..self.n).rev() {
             write!(f, "{}", letter_text(self.letter(q)))?;

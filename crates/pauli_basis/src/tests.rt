@@ -3,12 +3,14 @@ ghost use Rattle.std.specs.Prelude.{◌≡◌, IfOk};
 use crate::{Pauli, laws};
 use std::test::Fail;
 
+/// The Pauli of a code, or a word that says that there is none.
 fn pauli(n: u8, code: u8) -> Result<Pauli, &'static str>
     ensures { IfOk result (λ p. p.qubits ≡ n) }
 {
     Pauli::new(n, code).ok_or("no such Pauli")
 }
 
+/// The products of all pairs of letters.
 #[test]
 fn letters_multiply(rt: HostRuntime) -> Result<(), Fail> {
     // Two letters, the letter of their product, and its quarter turns.
@@ -38,6 +40,7 @@ fn letters_multiply(rt: HostRuntime) -> Result<(), Fail> {
     Ok(())
 }
 
+/// Operators whose letters clash on two qubits commute.
 #[test]
 fn clashes_on_two_qubits_cancel(rt: HostRuntime) -> Result<(), Fail> {
     // XX and ZZ, XX and YZ, XI and ZI, IX and ZI, XYZ and ZXY, XYZ and XYZ
@@ -59,6 +62,7 @@ fn clashes_on_two_qubits_cancel(rt: HostRuntime) -> Result<(), Fail> {
     Ok(())
 }
 
+/// The signs of −i·Z·X and of −i·X·Z, and the laws of products.
 #[test]
 fn minus_i_times_a_product(rt: HostRuntime) -> Result<(), Fail> {
     // −i·Z·X = Y, and −i·X·Z = −Y
@@ -76,6 +80,7 @@ fn minus_i_times_a_product(rt: HostRuntime) -> Result<(), Fail> {
     Ok(())
 }
 
+/// The letters and the text of a code, and codes that there aren't.
 #[test]
 fn a_code_has_a_letter_for_each_qubit(rt: HostRuntime) -> Result<(), Fail> {
     let p = pauli(3, 49)?;
