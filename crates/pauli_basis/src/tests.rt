@@ -1,6 +1,6 @@
 ghost use Rattle.std.specs.Prelude.{◌≡◌, IfOk};
 
-use crate::{Pauli, laws};
+use crate::{Pauli, SignedPauli, laws};
 use std::test::Fail;
 
 /// The Pauli of a code, or a word that says that there is none.
@@ -70,11 +70,12 @@ fn minus_i_times_a_product(rt: HostRuntime) -> Result<(), Fail> {
         let p = pauli(1, left)?;
         let q = pauli(1, right)?;
         assert!(rt; !p.commutes(&q));
-        let (image, sign) = p.anti_image(&q);
-        assert_eq!(rt; image.code(), 2);
-        assert_eq!(rt; sign, negative);
+        let image = p.anti_image(&q);
+        assert_eq!(rt; image, SignedPauli::new(2, negative));
+        assert_eq!(rt; (image.code(), image.letter(0)), (2, 2));
+        assert_eq!(rt; image.is_negative(), negative);
         laws::anti_image_turns_back(&p, &q);
-        laws::products_associate(&p, &q, &image);
+        laws::products_associate(&p, &q, &p);
         laws::square_is_identity(&p);
     }
     Ok(())
@@ -89,6 +90,8 @@ fn a_code_has_a_letter_for_each_qubit(rt: HostRuntime) -> Result<(), Fail> {
     assert_eq!(rt; (p.letter(0), p.letter(1), p.letter(2)), (1, 0, 3));
     assert_eq!(rt; p.to_string(rt.alloc())?.as_str(), "ZIX");
     assert_eq!(rt; p, pauli(3, 49)?);
+    assert_eq!(rt; Pauli::of_code(3, 49), p);
+    assert_eq!(rt; Pauli::of_code(2, 49).code(), 1);
     for (n, code) in [(0, 0), (1, 4), (2, 16), (3, 64), (4, 0)] {
         assert!(rt; Pauli::new(n, code).is_none(), "at {n}, {code}");
     }
