@@ -22,6 +22,7 @@ fn same(rt: &impl Abort, c: &Channel, m: &Narrow)
     }
 }
 
+/// Two rotations by π/4 about Z are one by π/2, as a narrow channel.
 #[test]
 fn two_quarter_phases_are_a_half_in_narrow_rows(rt: HostRuntime) -> Result<(), Fail> {
     let two = Narrow::new(rt.alloc(), 2)?;
@@ -120,6 +121,7 @@ fn walk(
     Ok(())
 }
 
+/// A narrow channel has the cells of the channel that the same rotations make.
 #[test]
 fn narrow_rows_are_those_of_a_channel(rt: HostRuntime) -> Result<(), Fail> {
     let mut state = 1;
@@ -131,6 +133,7 @@ fn narrow_rows_are_those_of_a_channel(rt: HostRuntime) -> Result<(), Fail> {
     Ok(())
 }
 
+/// As many rotations as the largest narrow exponent allows keep their cells.
 #[test]
 fn the_most_rotations_fit_narrow_rows(rt: HostRuntime) -> Result<(), Fail> {
     // 28 of them are Z, and its cells are √2^28 and −√2^28.
@@ -149,6 +152,7 @@ fn the_most_rotations_fit_narrow_rows(rt: HostRuntime) -> Result<(), Fail> {
     Ok(())
 }
 
+/// A channel that is made narrow and wide again is the same.
 #[test]
 fn channels_become_narrow_and_wide_again(rt: HostRuntime) -> Result<(), Fail> {
     let mut c = Channel::identity(rt.alloc(), 2)?;

@@ -17,6 +17,7 @@ pub fn pauli(n: u8, code: u8) -> Result<Pauli, &'static str>
     }
 }
 
+/// Two rotations by π/4 about Z are one by π/2, cell by cell.
 #[test]
 fn two_quarter_phases_are_a_half(rt: HostRuntime) -> Result<(), Fail> {
     let z = pauli(1, 3)?;
@@ -40,11 +41,11 @@ fn two_quarter_phases_are_a_half(rt: HostRuntime) -> Result<(), Fail> {
     c.left_rotation(z);
     c.reduce();
     assert_eq!(rt; c.exponent(), 0);
-    images(&rt, &c, &[(1, 2, false), (2, 1, true), (3, 3, false)])
+    assert_images(&rt, &c, &[(1, 2, false), (2, 1, true), (3, 3, false)])
 }
 
 /// Asserts that each code goes to the code and the sign beside it.
-fn images(rt: &impl Abort, c: &Channel, want: &[(u8, u8, bool)]) -> Result<(), Fail> {
+fn assert_images(rt: &impl Abort, c: &Channel, want: &[(u8, u8, bool)]) -> Result<(), Fail> {
     assert!(rt; c.signed_permutation());
     for (code, image, negative) in want {
         let p = Pauli::new(c.qubits(), *code).ok_or("no such Pauli")?;
@@ -55,21 +56,22 @@ fn images(rt: &impl Abort, c: &Channel, want: &[(u8, u8, bool)]) -> Result<(), F
     Ok(())
 }
 
+/// The images of Paulis under each gate.
 #[test]
 fn gates_conjugate(rt: HostRuntime) -> Result<(), Fail> {
     let mut c = Channel::identity(rt.alloc(), 1)?;
     c.left_gate(ChannelGate::H(0));
-    images(
+    assert_images(
         &rt,
         &c,
         &[(0, 0, false), (1, 3, false), (2, 2, true), (3, 1, false)],
     )?;
     let mut c = Channel::identity(rt.alloc(), 1)?;
     c.left_gate(ChannelGate::S(0));
-    images(&rt, &c, &[(1, 2, false), (2, 1, true), (3, 3, false)])?;
+    assert_images(&rt, &c, &[(1, 2, false), (2, 1, true), (3, 3, false)])?;
     let mut c = Channel::identity(rt.alloc(), 1)?;
     c.left_gate(ChannelGate::Sdg(0));
-    images(&rt, &c, &[(1, 2, true), (2, 1, false), (3, 3, false)])?;
+    assert_images(&rt, &c, &[(1, 2, true), (2, 1, false), (3, 3, false)])?;
     // Control 0, target 1: X and Y of the control take X along, Y and Z of the target take Z along, and X with Z and Y
     // with Y change places with a sign.
     let mut c = Channel::identity(rt.alloc(), 2)?;
@@ -86,9 +88,10 @@ fn gates_conjugate(rt: HostRuntime) -> Result<(), Fail> {
         (9, 14, false),
         (14, 9, false),
     ];
-    images(&rt, &c, &want)
+    assert_images(&rt, &c, &want)
 }
 
+/// A rotation and its inverse leave the identity.
 #[test]
 fn an_inverse_undoes_a_rotation(rt: HostRuntime) -> Result<(), Fail> {
     let mut c = Channel::identity(rt.alloc(), 3)?;
@@ -101,7 +104,7 @@ fn an_inverse_undoes_a_rotation(rt: HostRuntime) -> Result<(), Fail> {
     assert_eq!(rt; d.exponent(), 2);
     d.reduce();
     assert_eq!(rt; d.exponent(), 0);
-    images(
+    assert_images(
         &rt,
         &d,
         &[
@@ -113,6 +116,7 @@ fn an_inverse_undoes_a_rotation(rt: HostRuntime) -> Result<(), Fail> {
     )
 }
 
+/// As many rotations as the largest exponent allows keep their cells.
 #[test]
 fn the_most_rotations_fit(rt: HostRuntime) -> Result<(), Fail> {
     laws::channels_are_orthogonal();
@@ -131,9 +135,10 @@ fn the_most_rotations_fit(rt: HostRuntime) -> Result<(), Fail> {
     }
     c.reduce();
     assert_eq!(rt; c.exponent(), 0);
-    images(&rt, &c, &[(1, 1, false), (2, 2, false), (3, 3, false)])
+    assert_images(&rt, &c, &[(1, 1, false), (2, 2, false), (3, 3, false)])
 }
 
+/// The images of Paulis under three gates one after another.
 #[test]
 fn a_run_conjugates_each_pauli(rt: HostRuntime) -> Result<(), Fail> {
     // sdg and h on the control, and then cx: X of the control goes to −Y and on to Y, which takes X along; Z goes to X and
@@ -158,6 +163,7 @@ fn a_run_conjugates_each_pauli(rt: HostRuntime) -> Result<(), Fail> {
     Ok(())
 }
 
+/// Gates at once make the same channel as one by one.
 #[test]
 fn a_run_moves_rows_as_its_gates_do(rt: HostRuntime) -> Result<(), Fail> {
     let mut run = Conjugation::identity(3);
@@ -184,6 +190,7 @@ fn a_run_moves_rows_as_its_gates_do(rt: HostRuntime) -> Result<(), Fail> {
     Ok(())
 }
 
+/// Calls the laws, which do nothing.
 #[test]
 fn laws_are_called() {
     laws::tables_compare();

@@ -13,7 +13,7 @@ ghost use Rattle.clifford_rest.specs.State.{gates_behind};
 ghost use Rattle.channel_rep.specs.Conjugations.{conjugated_by};
 
 use crate::pauli::{SignedPauli, image_of};
-use crate::qubit::swept;
+use crate::qubit::sweep_qubit;
 use crate::steps::QubitSweep;
 use channel_rep::{Channel, ChannelGate};
 use std::alloc::{AllocError, Global};
@@ -58,7 +58,7 @@ fn image_behind(c: &Channel, gates: &[ChannelGate], code: u8) -> SignedPauli
     ensures value { result ≡ conjugated_by c.now.qubits gates.now (sent_to c.now.qubits (table_of c.now) code) }
     ensures below { result.code < 4 ^ c.now.qubits }
 {
-    image_of(c, code).conjugated_by(c.qubits(), gates)
+    image_of(c, code).conjugate_by(c.qubits(), gates)
 }
 
 /// The gates that undo qubit q of the operator of a signed permutation, with gates behind it.
@@ -77,12 +77,12 @@ fn more_gates(
     let n = c.qubits();
     let a = image_behind(c, gates, x_on(q));
     let b = image_behind(c, gates, z_on(q));
-    let qubit = swept(alloc, n, q, a, b)?;
+    let qubit = sweep_qubit(alloc, n, q, a, b)?;
     Ok(qubit)
 }
 
 /// The gates that undo the operator of a signed permutation, the first undone first.
-pub(crate) fn undoing(alloc: Global, c: &Channel) -> Result<Vec<ChannelGate>, AllocError>
+pub fn undo_gates(alloc: Global, c: &Channel) -> Result<Vec<ChannelGate>, AllocError>
     requires { IsSignedPermutation c.now }
     ensures value { IfOk result (λ gates. gates.items ≡ undo_gates c.now) }
     ensures fit { IfOk result (λ gates. AllByRecursion (GateFits c.now.qubits) gates.items) }
@@ -96,7 +96,7 @@ pub(crate) fn undoing(alloc: Global, c: &Channel) -> Result<Vec<ChannelGate>, Al
 }
 
 /// The circuit of the inverse gates in reverse order.
-fn reversed(alloc: Global, n: u8, gates: &[ChannelGate]) -> Result<Circuit, AllocError>
+fn inverse_circuit(alloc: Global, n: u8, gates: &[ChannelGate]) -> Result<Circuit, AllocError>
     requires some { 0 < n }
     requires few { n ≤ 3 }
     requires fit { AllByRecursion (GateFits n) gates.now }
@@ -127,7 +127,7 @@ pub fn rest(alloc: Global, c: &Channel) -> Result<Circuit, AllocError>
     ensures built { IfOk result (λ r. IsBuiltOf c.now.qubits (steps_of r.gates) (scaled c.now)) }
     ensures channel { IfOk result (λ r. IsChannel c.now.qubits (matrix_of c.now.qubits r.gates).table (scaled c.now)) }
 {
-    let gates = undoing(alloc, c)?;
-    let circuit = reversed(alloc, c.qubits(), &gates)?;
+    let gates = undo_gates(alloc, c)?;
+    let circuit = inverse_circuit(alloc, c.qubits(), &gates)?;
     Ok(circuit)
 }

@@ -28,7 +28,7 @@ impl QubitSweep {
     }
 
     /// Makes the letters of A on the qubits from q on I or X.
-    pub(crate) fn clear_all_a(&mut self, q: u8) -> Result<(), AllocError>
+    pub fn clear_all_a(&mut self, q: u8) -> Result<(), AllocError>
         requires { q < self.old.qubits }
         ensures { OnOk result (self.new ≡ record self.old { sweep = each (clear_a self.old.qubits) q (self.old.qubits - q) self.old.sweep }) }
     {
@@ -40,7 +40,7 @@ impl QubitSweep {
     }
 
     /// Makes the letters of B on the qubits from q on I or X, but leaves Z on q.
-    pub(crate) fn clear_all_b(&mut self, q: u8) -> Result<(), AllocError>
+    pub fn clear_all_b(&mut self, q: u8) -> Result<(), AllocError>
         requires { q < self.old.qubits }
         ensures { OnOk result (self.new ≡ record self.old { sweep = each (clear_b self.old.qubits q) q (self.old.qubits - q) self.old.sweep }) }
     {
@@ -52,7 +52,7 @@ impl QubitSweep {
     }
 
     /// Takes X on the qubits above q from A, by X on q.
-    pub(crate) fn drop_all_a(&mut self, q: u8) -> Result<(), AllocError>
+    pub fn drop_all_a(&mut self, q: u8) -> Result<(), AllocError>
         requires { q < self.old.qubits }
         ensures { OnOk result (self.new ≡ record self.old { sweep = each (drop_a self.old.qubits q) (suc q) (self.old.qubits - suc q) self.old.sweep }) }
     {
@@ -64,7 +64,7 @@ impl QubitSweep {
     }
 
     /// Takes X on the qubits above q from B.
-    pub(crate) fn drop_all_b(&mut self, q: u8) -> Result<(), AllocError>
+    pub fn drop_all_b(&mut self, q: u8) -> Result<(), AllocError>
         requires { q < self.old.qubits }
         ensures { OnOk result (self.new ≡ record self.old { sweep = each (drop_b self.old.qubits q) (suc q) (self.old.qubits - suc q) self.old.sweep }) }
     {
@@ -92,7 +92,7 @@ impl QubitSweep {
     }
 
     /// Puts X on q into A, from the lowest qubit above that has it, where A has I on q.
-    pub(crate) fn put_x(&mut self, q: u8) -> Result<(), AllocError>
+    pub fn put_x(&mut self, q: u8) -> Result<(), AllocError>
         requires { q < self.old.qubits }
         ensures { OnOk result (self.new ≡ record self.old { sweep = put_x self.old.qubits q self.old.sweep }) }
     {

@@ -13,7 +13,7 @@ use std::marker::Model;
 
 /// A Pauli operator on up to three qubits, with a sign.
 #[derive(Clone, Copy)]
-pub(crate) struct SignedPauli {
+pub struct SignedPauli {
     code: u8,
     negative: bool,
 }
@@ -30,14 +30,14 @@ impl Model for SignedPauli {
 
 impl SignedPauli {
     /// Whether the sign is negative.
-    pub(crate) fn is_negative(self) -> bool
+    pub fn is_negative(self) -> bool
         ensures { result ≡ self.is_negative }
     {
         self.negative
     }
 
     /// Whether it is Z on one qubit, up to its sign.
-    pub(crate) fn is_z(self, q: u8) -> bool
+    pub fn is_z(self, q: u8) -> bool
         requires { q < 3 }
         ensures { result ≡ (self.code == 3 * 4 ^ q) }
     {
@@ -45,7 +45,7 @@ impl SignedPauli {
     }
 
     /// Whether the letter on a qubit is this one: I = 0, X = 1, Y = 2, Z = 3.
-    pub(crate) fn has_letter(self, letter: u8, q: u8) -> bool
+    pub fn has_letter(self, letter: u8, q: u8) -> bool
         requires { q < 3 }
         ensures { result ≡ has_letter letter q self }
     {
@@ -53,7 +53,7 @@ impl SignedPauli {
     }
 
     /// What conjugation by a gate makes of it.
-    pub(crate) fn conjugated(self, n: u8, gate: ChannelGate) -> SignedPauli
+    pub fn conjugate(self, n: u8, gate: ChannelGate) -> SignedPauli
         requires some { 0 < n }
         requires few { n ≤ 3 }
         requires fits { GateFits n gate }
@@ -69,7 +69,7 @@ impl SignedPauli {
     }
 
     /// What conjugation by gates one after another makes of it.
-    pub(crate) fn conjugated_by(self, n: u8, gates: &[ChannelGate]) -> SignedPauli
+    pub fn conjugate_by(self, n: u8, gates: &[ChannelGate]) -> SignedPauli
         requires some { 0 < n }
         requires few { n ≤ 3 }
         requires fits { AllByRecursion (GateFits n) gates.now }
@@ -79,14 +79,14 @@ impl SignedPauli {
     {
         let mut p = self;
         for gate in gates {
-            p = p.conjugated(n, *gate);
+            p = p.conjugate(n, *gate);
         }
         p
     }
 }
 
 /// What a signed permutation makes of a code.
-pub(crate) fn image_of(c: &Channel, code: u8) -> SignedPauli
+pub fn image_of(c: &Channel, code: u8) -> SignedPauli
     requires permutation { IsSignedPermutation c.now }
     requires below { code < 4 ^ c.now.qubits }
     ensures value { result ≡ sent_to c.now.qubits (table_of c.now) code }

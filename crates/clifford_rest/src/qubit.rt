@@ -76,7 +76,7 @@ impl QubitSweep {
 }
 
 /// The sweep of qubit q of an operator that makes `a` of X and `b` of Z on q.
-pub(crate) fn swept(
+pub fn sweep_qubit(
     alloc: Global,
     n: u8,
     q: u8,

@@ -14,7 +14,7 @@ const MOST_GATES: usize = 19;
 
 /// What an operator, with the gates behind it that were undone so far, makes of X and Z on the qubit that is swept.
 #[derive(Drop)]
-pub(crate) struct QubitSweep {
+pub struct QubitSweep {
     n: u8,
     a: SignedPauli,
     b: SignedPauli,
@@ -33,7 +33,7 @@ impl Model for QubitSweep {
 
 impl QubitSweep {
     /// A sweep that has undone nothing yet, of an operator on n qubits that makes `a` of X and `b` of Z.
-    pub(crate) fn start(
+    pub fn start(
         alloc: Global,
         n: u8,
         a: SignedPauli,
@@ -50,7 +50,7 @@ impl QubitSweep {
     }
 
     /// The gates that were undone, the first first.
-    pub(crate) fn gates(&self) -> &[ChannelGate]
+    pub fn gates(&self) -> &[ChannelGate]
         ensures value { result.now ≡ self.now.sweep.gates }
         ensures fit { AllByRecursion (GateFits self.now.qubits) result.now }
     {
@@ -58,7 +58,7 @@ impl QubitSweep {
     }
 
     /// How many qubits there are.
-    pub(crate) fn qubits(&self) -> u8
+    pub fn qubits(&self) -> u8
         ensures value { result ≡ self.now.qubits }
         ensures some { 0 < result }
         ensures few { result ≤ 3 }
@@ -67,7 +67,7 @@ impl QubitSweep {
     }
 
     /// What the operator makes of X on the qubit by now.
-    pub(crate) fn a(&self) -> SignedPauli
+    pub fn a(&self) -> SignedPauli
         ensures value { result ≡ self.now.sweep.a }
         ensures few { self.now.qubits ≤ 3 }
     {
@@ -75,7 +75,7 @@ impl QubitSweep {
     }
 
     /// What it makes of Z.
-    pub(crate) fn b(&self) -> SignedPauli
+    pub fn b(&self) -> SignedPauli
         ensures value { result ≡ self.now.sweep.b }
         ensures few { self.now.qubits ≤ 3 }
     {
@@ -83,18 +83,18 @@ impl QubitSweep {
     }
 
     /// Puts a gate behind the operator.
-    pub(crate) fn undo(&mut self, gate: ChannelGate) -> Result<(), AllocError>
+    pub fn undo(&mut self, gate: ChannelGate) -> Result<(), AllocError>
         requires { GateFits self.old.qubits gate }
         ensures { OnOk result (self.new ≡ record self.old { sweep = undo self.old.qubits gate self.old.sweep }) }
     {
         self.gates.push(gate)?;
-        self.a = self.a.conjugated(self.n, gate);
-        self.b = self.b.conjugated(self.n, gate);
+        self.a = self.a.conjugate(self.n, gate);
+        self.b = self.b.conjugate(self.n, gate);
         Ok(())
     }
 
     /// Puts a gate behind the operator where that is asked for.
-    pub(crate) fn undo_if(&mut self, asked: bool, gate: ChannelGate) -> Result<(), AllocError>
+    pub fn undo_if(&mut self, asked: bool, gate: ChannelGate) -> Result<(), AllocError>
         requires { GateFits self.old.qubits gate }
         ensures { OnOk result (self.new ≡ record self.old { sweep = undo_if asked self.old.qubits gate self.old.sweep }) }
     {

@@ -4,7 +4,7 @@ ghost use Rattle.tc_circuit.specs.Model.{t_count_of};
 ghost use Rattle.channel_rep.specs.Cells.{scaled, IsSignedPermutation};
 ghost use Rattle.channel_rep.specs.Tables.{IsCircuitChannel};
 
-use crate::circuit::undoing;
+use crate::circuit::undo_gates;
 use crate::rest;
 use channel_rep::{Channel, ChannelGate};
 use pauli_basis::Pauli;
@@ -14,6 +14,7 @@ use std::test::Fail;
 use tc_bridge::channel_of;
 use tc_circuit::{Circuit, Gate};
 
+/// Whether a gate's qubits are below n, and those of cx differ.
 fn fits(n: u8, gate: Gate) -> bool
     ensures { IsTrue result → Fits n gate }
 {
@@ -23,7 +24,7 @@ fn fits(n: u8, gate: Gate) -> bool
     }
 }
 
-// The channel of gates on n qubits, which are to be without T gates.
+/// The channel of gates on n qubits, which are to be without T gates.
 fn channel(rt: &impl Abort, alloc: Global, n: u8, gates: &[Gate]) -> Result<Channel, Fail>
     requires some { 0 < n }
     requires few { n ≤ 3 }
@@ -43,7 +44,7 @@ fn channel(rt: &impl Abort, alloc: Global, n: u8, gates: &[Gate]) -> Result<Chan
     Ok(channel)
 }
 
-// How many Pauli operators there are on n qubits.
+/// How many Pauli operators there are on n qubits.
 fn codes(n: u8) -> usize
     requires { n ≤ 3 }
     ensures { result ≡ 4 ^ n }
@@ -56,7 +57,7 @@ fn codes(n: u8) -> usize
     }
 }
 
-// Whether two channels have the same cells in a row.
+/// Whether two channels have the same cells in a row.
 fn same_row(a: &Channel, b: &Channel, row: usize) -> bool
     requires same { a.now.qubits ≡ b.now.qubits }
     requires row { row < 4 ^ a.now.qubits }
@@ -69,7 +70,7 @@ fn same_row(a: &Channel, b: &Channel, row: usize) -> bool
     true
 }
 
-// Whether two channels have the same cells.
+/// Whether two channels have the same cells.
 fn same(a: &Channel, b: &Channel) -> bool
     requires { a.now.qubits ≡ b.now.qubits }
 {
@@ -81,7 +82,7 @@ fn same(a: &Channel, b: &Channel) -> bool
     true
 }
 
-// Asserts that the rest of the gates' channel has that channel.
+/// Asserts that the rest of the gates' channel has that channel.
 fn assert_rest(rt: &impl Abort, alloc: Global, n: u8, gates: &[Gate]) -> Result<(), Fail>
     requires some { 0 < n }
     requires few { n ≤ 3 }
@@ -93,7 +94,7 @@ fn assert_rest(rt: &impl Abort, alloc: Global, n: u8, gates: &[Gate]) -> Result<
     Ok(())
 }
 
-// A gate on n qubits, by a number.
+/// A gate on n qubits, by a number.
 fn gate(n: u8, number: u64) -> Gate
     requires some { 0 < n }
     requires few { n ≤ 3 }
@@ -109,8 +110,8 @@ fn gate(n: u8, number: u64) -> Gate
     }
 }
 
-// Gates on n qubits, drawn from a seed.
-fn drawn(alloc: Global, n: u8, seed: u64) -> Result<Vec<Gate>, Fail>
+/// Gates on n qubits, drawn from a seed.
+fn draw_gates(alloc: Global, n: u8, seed: u64) -> Result<Vec<Gate>, Fail>
     requires some { 0 < n }
     requires few { n ≤ 3 }
 {
@@ -125,7 +126,7 @@ fn drawn(alloc: Global, n: u8, seed: u64) -> Result<Vec<Gate>, Fail>
     Ok(gates)
 }
 
-// The images of X and Z, as one number below 64.
+/// The images of X and Z, as one number below 64.
 fn images(rt: &impl Abort, c: &Channel) -> Result<u8, Fail>
     requires permutation { IsSignedPermutation c.now }
     requires one { c.now.qubits ≡ 1 }
@@ -136,7 +137,7 @@ fn images(rt: &impl Abort, c: &Channel) -> Result<u8, Fail>
     Ok(x.code() * 16 + z.code() * 4 + u8::from(x_negative) * 2 + u8::from(z_negative))
 }
 
-// Gates h and s by the bits of a number.
+/// Gates h and s by the bits of a number.
 fn letters(alloc: Global, count: u8, number: u16) -> Result<Vec<Gate>, Fail> {
     let mut gates = Vec::new(alloc);
     for place in 0..count.min(15) {
@@ -149,7 +150,7 @@ fn letters(alloc: Global, count: u8, number: u16) -> Result<Vec<Gate>, Fail> {
     Ok(gates)
 }
 
-// Every Clifford of one qubit is a product of at most seven gates h and s.
+/// Every Clifford of one qubit is a product of at most seven gates h and s.
 #[test]
 fn one_qubit(rt: HostRuntime) -> Result<(), Fail> {
     let mut seen = [false; 64];
@@ -170,16 +171,17 @@ fn one_qubit(rt: HostRuntime) -> Result<(), Fail> {
     Ok(())
 }
 
+/// The rests of gates drawn on two and three qubits.
 #[test]
 fn products_on_two_and_three_qubits(rt: HostRuntime) -> Result<(), Fail> {
     for seed in 0..300 {
-        assert_rest(&rt, rt.alloc(), 2, &drawn(rt.alloc(), 2, seed)?)?;
-        assert_rest(&rt, rt.alloc(), 3, &drawn(rt.alloc(), 3, seed)?)?;
+        assert_rest(&rt, rt.alloc(), 2, &draw_gates(rt.alloc(), 2, seed)?)?;
+        assert_rest(&rt, rt.alloc(), 3, &draw_gates(rt.alloc(), 3, seed)?)?;
     }
     Ok(())
 }
 
-// Gates, what the sweep undoes, and the rest, worked by hand.
+/// Gates, what the sweep undoes, and the rest, worked by hand.
 #[test]
 fn undo_lists(rt: HostRuntime) -> Result<(), Fail> {
     use channel_rep::ChannelGate::{Cx, H, Sdg};
@@ -231,7 +233,7 @@ fn undo_lists(rt: HostRuntime) -> Result<(), Fail> {
         assert!(rt; 0 < n && n <= 3);
         let c = channel(&rt, rt.alloc(), n, gates)?;
         assert!(rt;
-            undoing(rt.alloc(), &c)?.as_slice() == undone,
+            undo_gates(rt.alloc(), &c)?.as_slice() == undone,
             "undone of {gates:?}"
         );
         assert!(rt; rest(rt.alloc(), &c)?.gates() == want, "rest of {gates:?}");

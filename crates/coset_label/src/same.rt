@@ -4,7 +4,7 @@ ghost use Rattle.tc_ring.specs.Root2.{surd_of};
 ghost use Rattle.channel_rep.specs.Cells.{cell_of, RowWithin};
 ghost use Rattle.coset_label.specs.Scratch.{IsArranged, kept_column, cell_at};
 
-use crate::columns::turned;
+use crate::columns::turn_sign;
 use channel_rep::Channel;
 use tc_ring::Root2;
 
@@ -17,7 +17,7 @@ fn cell_at_place(line: &[Root2], negative: &[bool], order: &[u8], place: usize) 
     ensures { surd_of result ≡ cell_at (cell_of line.now) negative.now order.now place }
 {
     let column = order[place] as usize;
-    turned(line[column], negative[column])
+    turn_sign(line[column], negative[column])
 }
 
 /// Whether the cells of two labels in one row are the same.

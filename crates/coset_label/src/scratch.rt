@@ -13,7 +13,7 @@ ghost use Rattle.coset_label.specs.Words.{IsShortWord, word_steps, word_channel}
 use crate::Word;
 use crate::columns::{columns_of, find_leads, sort_columns};
 use crate::same::same_columns;
-use crate::sums::{label_fold, mixed};
+use crate::sums::{label_fold, mix};
 use channel_rep::{Channel, Narrow};
 use pauli_basis::Pauli;
 use std::alloc::{AllocError, Global};
@@ -245,5 +245,5 @@ pub fn tag(s: &Scratch) -> u64
     ensures value { result ≡ tag_of s.now.label }
     ensures low { result < 2 ^ 38 }
 {
-    mixed(label_fold(&s.channel, &s.negative, &s.order))
+    mix(label_fold(&s.channel, &s.negative, &s.order))
 }

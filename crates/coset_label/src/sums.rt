@@ -114,7 +114,7 @@ pub fn label_fold(channel: &Channel, negative: &[bool], order: &[u8]) -> u64
 }
 
 /// The tag of a fold.
-pub fn mixed(fold: u64) -> u64
+pub fn mix(fold: u64) -> u64
     ensures { result ≡ (fold % 2 ^ 38 + fold % 2 ^ 38 / 2 ^ 19) % 2 ^ 38 }
 {
     let f = fold & LOW_BITS;

@@ -50,6 +50,7 @@ fn word(n: u8, codes: &[u8]) -> Result<Word, &'static str>
     Ok(w)
 }
 
+/// The letters of a word, from the first to the last, and the order of two words.
 #[test]
 fn letters_stand_in_order(rt: HostRuntime) -> Result<(), Fail> {
     let zz = pauli(2, 15)?;
@@ -69,6 +70,7 @@ fn letters_stand_in_order(rt: HostRuntime) -> Result<(), Fail> {
     Ok(())
 }
 
+/// Words, their exponents and their tags.
 #[test]
 fn words_have_these_exponents_and_tags(rt: HostRuntime) -> Result<(), Fail> {
     // Qubits, letters, exponent and tag, by complex matrices and the plain fold outside this program.
@@ -100,6 +102,7 @@ fn words_have_these_exponents_and_tags(rt: HostRuntime) -> Result<(), Fail> {
     Ok(())
 }
 
+/// Words of the same letters lie in one coset where the letters commute.
 #[test]
 fn letters_that_commute_may_change_places(rt: HostRuntime) -> Result<(), Fail> {
     let rows: [(&[u8], &[u8], bool); 2] = [(&[15, 3], &[3, 15], true), (&[1, 3], &[3, 1], false)];
@@ -113,6 +116,7 @@ fn letters_that_commute_may_change_places(rt: HostRuntime) -> Result<(), Fail> {
     Ok(())
 }
 
+/// A word's label is that of the channel that its letters make.
 #[test]
 fn a_channel_has_the_label_of_its_word(rt: HostRuntime) -> Result<(), Fail> {
     let mut c = Channel::identity(rt.alloc(), 3)?;
@@ -128,6 +132,7 @@ fn a_channel_has_the_label_of_its_word(rt: HostRuntime) -> Result<(), Fail> {
     Ok(())
 }
 
+/// A narrow channel has the label of the channel that it was made from.
 #[test]
 fn narrow_rows_have_the_label_of_their_channel(rt: HostRuntime) -> Result<(), Fail> {
     let z = pauli(1, 3)?;
@@ -146,6 +151,7 @@ fn narrow_rows_have_the_label_of_their_channel(rt: HostRuntime) -> Result<(), Fa
     Ok(())
 }
 
+/// A narrow channel of rotations has the label of their word.
 #[test]
 fn narrow_rows_have_the_label_of_their_word(rt: HostRuntime) -> Result<(), Fail> {
     let rows: [(u8, &[u8]); 5] = [
@@ -172,6 +178,7 @@ fn narrow_rows_have_the_label_of_their_word(rt: HostRuntime) -> Result<(), Fail>
     Ok(())
 }
 
+/// A word is told by its packed letters.
 #[test]
 fn letters_make_their_word(rt: HostRuntime) -> Result<(), Fail> {
     let w = Word::from_letters(2, 2, 243);
@@ -196,6 +203,7 @@ fn front_agrees(alloc: Global, w: Word, c: &Channel, letter: Pauli) -> Result<bo
     Ok(same_label(&s, &t))
 }
 
+/// The label of a word behind a channel.
 #[test]
 fn a_front_has_the_label_of_its_word(rt: HostRuntime) -> Result<(), Fail> {
     let rows: [(&[u8], u8); 4] = [
@@ -219,6 +227,7 @@ fn a_front_has_the_label_of_its_word(rt: HostRuntime) -> Result<(), Fail> {
     Ok(())
 }
 
+/// Pairs of words, and whether they lie in one coset.
 #[test]
 fn words_lie_in_these_cosets(rt: HostRuntime) -> Result<(), Fail> {
     let rows: [(&[u8], &[u8], bool); 4] = [
@@ -294,7 +303,7 @@ fn has_columns(a: &Channel, b: &Channel) -> bool
 }
 
 /// Asserts that two labels are equal exactly where the channels' columns agree up to order and signs.
-fn compared(rt: &impl Abort, a: &Channel, s: &Scratch, b: &Channel, t: &Scratch) -> bool {
+fn agree(rt: &impl Abort, a: &Channel, s: &Scratch, b: &Channel, t: &Scratch) -> bool {
     if a.qubits() != 2 || b.qubits() != 2 || s.qubits() != t.qubits() {
         return false;
     }
@@ -318,6 +327,7 @@ fn channel_of(alloc: Global, p: Pauli, q: Pauli) -> Result<Channel, AllocError>
     Ok(c)
 }
 
+/// Among all words of two letters, equal labels mean one coset.
 #[test]
 fn labels_of_two_letters_tell_cosets(rt: HostRuntime) -> Result<(), Fail> {
     let alloc = rt.alloc();
@@ -334,7 +344,7 @@ fn labels_of_two_letters_tell_cosets(rt: HostRuntime) -> Result<(), Fail> {
     let mut pairs = 0u64;
     for (a, s) in channels.iter().zip(&labels) {
         for (b, t) in channels.iter().zip(&labels) {
-            pairs = pairs.wrapping_add(compared(&rt, a, s, b, t) as u64);
+            pairs = pairs.wrapping_add(agree(&rt, a, s, b, t) as u64);
         }
     }
     assert_eq!(rt; pairs, 525);

@@ -1,6 +1,6 @@
 -- Lemmas for the crates above: laws of two and three letters, each computed for all of them, and the letters of a code.
-use Rattle.std.proofs.Common.{◌≡◌, ℕ, ◌+◌, ◌*◌, ◌/◌, ◌%◌, ◌^◌, ◌<◌, bit_xor, T, eqb, eqb→eq, ap, sym, ◌∙◌, arith, mod-lt, lit<}
-use Rattle.std.proofs.lemmas.Nat.{xor_shr, xor_mod, mul-pow, pow-add}
+use Rattle.std.proofs.Common.{◌≡◌, ℕ, ◌+◌, ◌*◌, ◌/◌, ◌%◌, ◌^◌, ◌-◌, ◌<◌, bit_and, bit_xor, T, eqb, eqb→eq, ap, sym, ◌∙◌, subst, arith, mod-lt, lit<}
+use Rattle.std.proofs.lemmas.Nat.{xor_shr, xor_mod, mul-pow, pow-add, pow_pos, and_mask}
 use Rattle.pauli_basis.specs.Letters.{letter_of, letter_turns, letter_clash}
 use Rattle.pauli_basis.proofs.Small.{all, all_at2, all_at3}
 
@@ -55,3 +55,11 @@ pub letter_turns-assoc : (l m o : ℕ) → l < 4 → m < 4 → o < 4
     → (letter_turns l m + letter_turns (bit_xor l m) o) % 4 ≡ (letter_turns m o + letter_turns l (bit_xor m o)) % 4
 letter_turns-assoc l m o bl bm bo =
     eqb→eq _ _ (all_at3 4 4 4 (λ l m o. eqb ((letter_turns l m + letter_turns (bit_xor l m) o) % 4) ((letter_turns m o + letter_turns l (bit_xor m o)) % 4)) tt l m o bl bm bo)
+
+-- a power of four isn't 0
+pub four_pos : (n : ℕ) → 0 < 4 ^ n
+four_pos n = subst (λ m. 0 < m) (two_bits n) (pow_pos (2 * n))
+
+-- the mask of the letters on n qubits
+pub masked : (n size code : ℕ) → size ≡ 4 ^ n → bit_and code (size - 1) ≡ code % 4 ^ n
+masked n size code e = ap (λ k. bit_and code (k - 1)) (e ∙ sym (two_bits n)) ∙ and_mask code (2 * n) ∙ ap (λ k. code % k) (two_bits n)

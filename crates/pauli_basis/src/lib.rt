@@ -9,8 +9,10 @@
 
 pub mod laws;
 mod pauli;
+mod signed;
 
 pub use pauli::Pauli;
+pub use signed::SignedPauli;
 
 #[cfg(test)]
 mod tests;

@@ -4,6 +4,7 @@ ghost use Rattle.pauli_basis.specs.Letters.{letter_of};
 ghost use Rattle.pauli_basis.specs.Pauli.{PauliString, IsPauliCode, letter_glyph, pauli_text};
 ghost use Rattle.pauli_basis.specs.Products.{product_code, turns, commute, anti_sign, sign_turns};
 
+use crate::SignedPauli;
 use std::fmt;
 use std::marker::Model;
 
@@ -67,6 +68,20 @@ impl Pauli {
         }
     }
 
+    /// The Pauli of a code's letters on one to three qubits. Letters on other qubits are left out.
+    pub fn of_code(n: u8, code: u8) -> Pauli
+        requires some { 0 < n }
+        requires few { n ≤ 3 }
+        ensures qubits { result.qubits ≡ n }
+        ensures code { result.code ≡ code % 4 ^ n }
+        ensures whole { code < 4 ^ n → result.code ≡ code }
+    {
+        Pauli {
+            n,
+            code: code & ((1 << (2 * n)) - 1),
+        }
+    }
+
     /// The number of qubits, 1 to 3.
     pub fn qubits(&self) -> u8
         ensures value { result ≡ self.now.qubits }
@@ -124,23 +139,24 @@ impl Pauli {
         (product, quarter_turns(self.code, o.code))
     }
 
-    /// The Hermitian operator −i·P·Q of two that anticommute: a Pauli, and whether its sign is negative.
-    pub fn anti_image(&self, q: &Pauli) -> (Pauli, bool)
+    /// The Hermitian operator −i·P·Q of two that anticommute, which is a Pauli with a sign.
+    pub fn anti_image(&self, q: &Pauli) -> SignedPauli
         requires same { self.now.qubits ≡ q.now.qubits }
         requires anticommute { commute self.now.qubits self.now.code q.now.code ≡ false }
-        ensures qubits { result.0.qubits ≡ self.now.qubits }
-        ensures code { result.0.code ≡ product_code self.now.code q.now.code }
-        ensures sign { result.1 ≡ anti_sign self.now.qubits self.now.code q.now.code }
-        ensures turns { (turns self.now.qubits self.now.code q.now.code + 3) % 4 ≡ sign_turns result.1 }
+        ensures below { result.code < 4 ^ self.now.qubits }
+        ensures code { result.code ≡ product_code self.now.code q.now.code }
+        ensures sign { result.is_negative ≡ anti_sign self.now.qubits self.now.code q.now.code }
+        ensures turns { (turns self.now.qubits self.now.code q.now.code + 3) % 4 ≡ sign_turns result.is_negative }
     {
         let (image, turns) = self.product(q);
-        (image, turns == 3)
+        SignedPauli::new(image.code(), turns == 3)
     }
 }
 
 impl fmt::Display for Pauli {
     ghost output = { λ p. Some (pauli_text p.qubits p.code) };
 
+    /// Writes the letters, that of the highest qubit first.
     fn fmt<W: fmt::Write>(&self, f: &mut fmt::Formatter<W>) -> fmt::Result {
         for q in (0..self.n).rev() {
             write!(f, "{}", letter_text(self.letter(q)))?;

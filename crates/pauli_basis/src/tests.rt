@@ -1,14 +1,16 @@
 ghost use Rattle.std.specs.Prelude.{◌≡◌, IfOk};
 
-use crate::{Pauli, laws};
+use crate::{Pauli, SignedPauli, laws};
 use std::test::Fail;
 
+/// The Pauli of a code, or a word that says that there is none.
 fn pauli(n: u8, code: u8) -> Result<Pauli, &'static str>
     ensures { IfOk result (λ p. p.qubits ≡ n) }
 {
     Pauli::new(n, code).ok_or("no such Pauli")
 }
 
+/// The products of all pairs of letters.
 #[test]
 fn letters_multiply(rt: HostRuntime) -> Result<(), Fail> {
     // Two letters, the letter of their product, and its quarter turns.
@@ -38,6 +40,7 @@ fn letters_multiply(rt: HostRuntime) -> Result<(), Fail> {
     Ok(())
 }
 
+/// Operators whose letters clash on two qubits commute.
 #[test]
 fn clashes_on_two_qubits_cancel(rt: HostRuntime) -> Result<(), Fail> {
     // XX and ZZ, XX and YZ, XI and ZI, IX and ZI, XYZ and ZXY, XYZ and XYZ
@@ -59,6 +62,7 @@ fn clashes_on_two_qubits_cancel(rt: HostRuntime) -> Result<(), Fail> {
     Ok(())
 }
 
+/// The signs of −i·Z·X and of −i·X·Z, and the laws of products.
 #[test]
 fn minus_i_times_a_product(rt: HostRuntime) -> Result<(), Fail> {
     // −i·Z·X = Y, and −i·X·Z = −Y
@@ -66,16 +70,18 @@ fn minus_i_times_a_product(rt: HostRuntime) -> Result<(), Fail> {
         let p = pauli(1, left)?;
         let q = pauli(1, right)?;
         assert!(rt; !p.commutes(&q));
-        let (image, sign) = p.anti_image(&q);
-        assert_eq!(rt; image.code(), 2);
-        assert_eq!(rt; sign, negative);
+        let image = p.anti_image(&q);
+        assert_eq!(rt; image, SignedPauli::new(2, negative));
+        assert_eq!(rt; (image.code(), image.letter(0)), (2, 2));
+        assert_eq!(rt; image.is_negative(), negative);
         laws::anti_image_turns_back(&p, &q);
-        laws::products_associate(&p, &q, &image);
+        laws::products_associate(&p, &q, &p);
         laws::square_is_identity(&p);
     }
     Ok(())
 }
 
+/// The letters and the text of a code, and codes that there aren't.
 #[test]
 fn a_code_has_a_letter_for_each_qubit(rt: HostRuntime) -> Result<(), Fail> {
     let p = pauli(3, 49)?;
@@ -84,6 +90,8 @@ fn a_code_has_a_letter_for_each_qubit(rt: HostRuntime) -> Result<(), Fail> {
     assert_eq!(rt; (p.letter(0), p.letter(1), p.letter(2)), (1, 0, 3));
     assert_eq!(rt; p.to_string(rt.alloc())?.as_str(), "ZIX");
     assert_eq!(rt; p, pauli(3, 49)?);
+    assert_eq!(rt; Pauli::of_code(3, 49), p);
+    assert_eq!(rt; Pauli::of_code(2, 49).code(), 1);
     for (n, code) in [(0, 0), (1, 4), (2, 16), (3, 64), (4, 0)] {
         assert!(rt; Pauli::new(n, code).is_none(), "at {n}, {code}");
     }

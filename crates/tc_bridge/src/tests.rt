@@ -44,7 +44,7 @@ fn matrix_of(rt: &impl Abort, alloc: Global, gates: &[Gate]) -> Result<Matrix, A
 }
 
 /// The product with √2^k, by √2 = ω − ω³.
-fn scaled(x: Number, k: u32) -> Number {
+fn scale(x: Number, k: u32) -> Number {
     let mut y = x;
     for _ in 0..k {
         y = Number(
@@ -90,6 +90,7 @@ fn rotation_entry(p: &Pauli, row: usize, col: usize) -> Number {
     }
 }
 
+/// Each Pauli's block of gates has the channel of its rotation.
 #[test]
 fn blocks_are_rotations(rt: HostRuntime) -> Result<(), Fail> {
     for code in 1..64u8 {
@@ -100,8 +101,8 @@ fn blocks_are_rotations(rt: HostRuntime) -> Result<(), Fail> {
         for row in 0..8 {
             for col in 0..8 {
                 assert_eq!(rt;
-                    scaled(number_of(m.cell(row, col)), 2),
-                    scaled(rotation_entry(&p, row, col), m.exponent()),
+                    scale(number_of(m.cell(row, col)), 2),
+                    scale(rotation_entry(&p, row, col), m.exponent()),
                     "{code} at {row}, {col}"
                 );
             }
@@ -110,6 +111,7 @@ fn blocks_are_rotations(rt: HostRuntime) -> Result<(), Fail> {
     Ok(())
 }
 
+/// No block is longer than that of YYY.
 #[test]
 fn the_longest_block_is_that_of_yyy(rt: HostRuntime) -> Result<(), Fail> {
     let yyy = Pauli::new(3, 42).ok_or("no such Pauli")?;
@@ -205,6 +207,7 @@ fn assert_channel(
     Ok(())
 }
 
+/// The channels of h, s and t on one qubit, cell by cell.
 #[test]
 fn channels_of_single_gates(rt: HostRuntime) -> Result<(), Fail> {
     let one = Root2 { a: 1, b: 0 };
@@ -241,6 +244,7 @@ fn channels_of_single_gates(rt: HostRuntime) -> Result<(), Fail> {
     Ok(())
 }
 
+/// The images of Paulis under cx, in its channel.
 #[test]
 fn the_channel_of_cx(rt: HostRuntime) -> Result<(), Fail> {
     let one = Root2 { a: 1, b: 0 };
@@ -268,6 +272,7 @@ fn the_channel_of_cx(rt: HostRuntime) -> Result<(), Fail> {
     Ok(())
 }
 
+/// Calls the laws, which do nothing.
 #[test]
 fn laws_are_called() {
     laws::codes_multiply_as_matrices();

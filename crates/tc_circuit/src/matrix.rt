@@ -14,7 +14,7 @@ use std::alloc::{AllocError, Global};
 use std::marker::Model;
 use tc_ring::Omega;
 
-// 2^n
+/// 2^n
 fn states(n: u8) -> usize
     requires { n ≤ 3 }
     ensures { result ≡ 2 ^ n }
@@ -22,7 +22,7 @@ fn states(n: u8) -> usize
     1 << n
 }
 
-// Whether bit q of the state is 1.
+/// Whether bit q of the state is 1.
 #[tactic(auto, unfolding(crate::specs::Bits::has_bit))]
 fn is_set(state: usize, q: u8) -> bool
     requires { q < 3 }
@@ -31,7 +31,7 @@ fn is_set(state: usize, q: u8) -> bool
     (state >> q) % 2 == 1
 }
 
-// The state with bit q flipped.
+/// The state with bit q flipped.
 fn flip(state: usize, q: u8) -> usize
     requires bit { q < 3 }
     requires small { state < 8 }
@@ -44,7 +44,7 @@ fn flip(state: usize, q: u8) -> usize
     }
 }
 
-// The state that cx makes of a state.
+/// The state that cx makes of a state.
 #[tactic(auto, unfolding(crate::specs::Bits::crossed))]
 fn cross(state: usize, control: u8, target: u8) -> usize
     requires control { control < 3 }
@@ -59,7 +59,7 @@ fn cross(state: usize, control: u8, target: u8) -> usize
     }
 }
 
-// A cell.
+/// A cell.
 fn cell_at(cells: &[Omega], n: u8, row: usize, col: usize) -> Omega
     requires few { n ≤ 3 }
     requires whole { length cells.now ≡ 2 ^ n * 2 ^ n }
@@ -70,8 +70,8 @@ fn cell_at(cells: &[Omega], n: u8, row: usize, col: usize) -> Omega
     cells[row * states(n) + col]
 }
 
-// The turns of ω by which a gate multiplies where its bit is 1.
-fn turned_by(cells: &[Omega], n: u8, q: u8, turns: u8, row: usize, col: usize) -> Omega
+/// The turns of ω by which a gate multiplies where its bit is 1.
+fn turn_cell(cells: &[Omega], n: u8, q: u8, turns: u8, row: usize, col: usize) -> Omega
     requires few { n ≤ 3 }
     requires bit { q < n }
     requires turns { turns < 8 }
@@ -89,7 +89,7 @@ fn turned_by(cells: &[Omega], n: u8, q: u8, turns: u8, row: usize, col: usize) -
     }
 }
 
-// The cell that the gate puts at a row and column.
+/// The cell that the gate puts at a row and column.
 fn changed_cell(cells: &[Omega], n: u8, gate: Gate, row: usize, col: usize) -> Omega
     requires few { n ≤ 3 }
     requires fits { Fits n gate }
@@ -109,15 +109,15 @@ fn changed_cell(cells: &[Omega], n: u8, gate: Gate, row: usize, col: usize) -> O
                 there.add(here)
             }
         }
-        Gate::S(q) => turned_by(cells, n, q, 2, row, col),
-        Gate::Sdg(q) => turned_by(cells, n, q, 6, row, col),
-        Gate::T(q) => turned_by(cells, n, q, 1, row, col),
-        Gate::Tdg(q) => turned_by(cells, n, q, 7, row, col),
+        Gate::S(q) => turn_cell(cells, n, q, 2, row, col),
+        Gate::Sdg(q) => turn_cell(cells, n, q, 6, row, col),
+        Gate::T(q) => turn_cell(cells, n, q, 1, row, col),
+        Gate::Tdg(q) => turn_cell(cells, n, q, 7, row, col),
         Gate::Cx(control, target) => cell_at(cells, n, cross(row, control, target), col),
     }
 }
 
-// The column that the gate makes of a column.
+/// The column that the gate makes of a column.
 fn changed_column(cells: &[Omega], n: u8, gate: Gate, col: usize) -> [Omega; 8]
     requires few { n ≤ 3 }
     requires fits { Fits n gate }
@@ -133,7 +133,7 @@ fn changed_column(cells: &[Omega], n: u8, gate: Gate, col: usize) -> [Omega; 8]
     column
 }
 
-// Writes a column.
+/// Writes a column.
 fn write_column(cells: &mut [Omega], n: u8, col: usize, column: &[Omega; 8])
     requires few { n ≤ 3 }
     requires whole { length cells.old ≡ 2 ^ n * 2 ^ n }
@@ -147,7 +147,7 @@ fn write_column(cells: &mut [Omega], n: u8, col: usize, column: &[Omega; 8])
     }
 }
 
-// Applies the gate to each column.
+/// Applies the gate to each column.
 fn change_cells(cells: &mut [Omega], n: u8, gate: Gate)
     requires few { n ≤ 3 }
     requires fits { Fits n gate }
@@ -162,7 +162,7 @@ fn change_cells(cells: &mut [Omega], n: u8, gate: Gate)
     }
 }
 
-// The cell of the identity at a row and a column.
+/// The cell of the identity at a row and a column.
 fn identity_cell(row: usize, col: usize) -> Omega
     ensures { number_of result ≡ identity cyclotomics row col }
 {
@@ -173,7 +173,7 @@ fn identity_cell(row: usize, col: usize) -> Omega
     }
 }
 
-// The cells of the identity.
+/// The cells of the identity.
 fn identity_cells(alloc: Global, n: u8) -> Result<Vec<Omega>, AllocError>
     requires few { n ≤ 3 }
     ensures whole { IfOk result (λ cells. length cells.items ≡ 2 ^ n * 2 ^ n) }

@@ -6,7 +6,7 @@ use std::alloc::{AllocError, Global};
 use std::test::Fail;
 use tc_ring::Omega;
 
-// A cell of a gate's matrix on two qubits.
+/// A cell of a gate's matrix on two qubits.
 fn entry(alloc: Global, gate: Gate, row: usize, col: usize) -> Result<Omega, AllocError>
     requires fits { Fits 2 gate }
     requires row { row < 4 }
@@ -17,7 +17,7 @@ fn entry(alloc: Global, gate: Gate, row: usize, col: usize) -> Result<Omega, All
     Ok(matrix.cell(row, col))
 }
 
-// The exponent of √2 below a gate's matrix on two qubits.
+/// The exponent of √2 below a gate's matrix on two qubits.
 fn exponent(alloc: Global, gate: Gate) -> Result<u32, AllocError>
     requires { Fits 2 gate }
 {
@@ -26,6 +26,7 @@ fn exponent(alloc: Global, gate: Gate) -> Result<u32, AllocError>
     Ok(matrix.exponent())
 }
 
+/// A circuit keeps its gates in order, and counts those of a kind.
 #[test]
 fn circuit_calls(rt: HostRuntime) -> Result<(), Fail> {
     let mut circuit = Circuit::new(rt.alloc(), 2);
@@ -49,6 +50,7 @@ fn circuit_calls(rt: HostRuntime) -> Result<(), Fail> {
     Ok(())
 }
 
+/// The cells and the exponents of the gates' matrices, worked by hand.
 #[test]
 fn gate_matrices(rt: HostRuntime) -> Result<(), Fail> {
     let alloc = rt.alloc();

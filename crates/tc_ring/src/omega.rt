@@ -92,6 +92,7 @@ impl Omega {
 mod tests {
     use super::*;
 
+    /// Each operation of Z[√2] and of Z[ω], once.
     #[test]
     fn operations(rt: HostRuntime) {
         let a = Omega { x: [1, -2, 3, 4] };

@@ -1,5 +1,6 @@
 use crate::{Omega, Root2};
 
+/// Sums, products and halves in Z[√2], worked by hand.
 #[test]
 fn root2_counts_by_hand(rt: HostRuntime) {
     // (3 + 5√2) and (2 − √2)
@@ -18,6 +19,7 @@ fn root2_counts_by_hand(rt: HostRuntime) {
     assert!(rt; Root2 { a: -1, b: 9 } < Root2 { a: 0, b: -9 });
 }
 
+/// Sums, turns and products in Z[ω], worked by hand.
 #[test]
 fn omega_counts_by_hand(rt: HostRuntime) {
     let x = Omega { x: [1, 2, 3, 4] };

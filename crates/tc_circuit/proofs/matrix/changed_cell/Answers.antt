@@ -62,16 +62,16 @@ returns-else-is_set c =
     (c.cell_at-there.ensures ∙ ap (λ x. entries c.args.n c.args.cells.now x c.args.col) c.flip.ensures))
 
 pub returns-in-S : goal.returns-in-S
-returns-in-S c = at_gate _ _ _ _ _ _ _ c.in-S.is (c.turned_by.ensures ∙ sym (diagonal_product _ c.in-S.q 2 _ c.args.row c.args.col c.requires.row))
+returns-in-S c = at_gate _ _ _ _ _ _ _ c.in-S.is (c.turn_cell.ensures ∙ sym (diagonal_product _ c.in-S.q 2 _ c.args.row c.args.col c.requires.row))
 
 pub returns-in-Sdg : goal.returns-in-Sdg
-returns-in-Sdg c = at_gate _ _ _ _ _ _ _ c.in-Sdg.is (c.turned_by-in-Sdg.ensures ∙ sym (diagonal_product _ c.in-Sdg.q 6 _ c.args.row c.args.col c.requires.row))
+returns-in-Sdg c = at_gate _ _ _ _ _ _ _ c.in-Sdg.is (c.turn_cell-in-Sdg.ensures ∙ sym (diagonal_product _ c.in-Sdg.q 6 _ c.args.row c.args.col c.requires.row))
 
 pub returns-in-T : goal.returns-in-T
-returns-in-T c = at_gate _ _ _ _ _ _ _ c.in-T.is (c.turned_by-in-T.ensures ∙ sym (diagonal_product _ c.in-T.q 1 _ c.args.row c.args.col c.requires.row))
+returns-in-T c = at_gate _ _ _ _ _ _ _ c.in-T.is (c.turn_cell-in-T.ensures ∙ sym (diagonal_product _ c.in-T.q 1 _ c.args.row c.args.col c.requires.row))
 
 pub returns-in-Tdg : goal.returns-in-Tdg
-returns-in-Tdg c = at_gate _ _ _ _ _ _ _ c.in-Tdg.is (c.turned_by-in-Tdg.ensures ∙ sym (diagonal_product _ c.in-Tdg.q 7 _ c.args.row c.args.col c.requires.row))
+returns-in-Tdg c = at_gate _ _ _ _ _ _ _ c.in-Tdg.is (c.turn_cell-in-Tdg.ensures ∙ sym (diagonal_product _ c.in-Tdg.q 7 _ c.args.row c.args.col c.requires.row))
 
 pub returns-in-Cx : goal.returns-in-Cx
 returns-in-Cx c =

@@ -2,7 +2,7 @@ use Rattle.std.proofs.Common.{◌^◌, ◌<◌, ap, arith}
 use Rattle.pauli_basis.specs.Products.{Signed}
 use Rattle.pauli_basis.proofs.Masks.{six_bits}
 use Rattle.channel_rep.proofs.Images.{image_below}
-use Rattle.clifford_rest.proofs.pauli.SignedPauli.conjugated.Goals as goal
+use Rattle.clifford_rest.proofs.pauli.SignedPauli.conjugate.Goals as goal
 
 pub image-code-requires-clause-code : goal.image-code-requires-clause-code
 image-code-requires-clause-code c =

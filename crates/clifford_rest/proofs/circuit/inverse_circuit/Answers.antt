@@ -1,7 +1,7 @@
 use Rattle.std.proofs.Common.{◌∙◌, arith}
 use Rattle.channel_rep.specs.declared.gate.ChannelGate.TheVariants.{H}
 use Rattle.clifford_rest.proofs.Lists.{reversed_more}
-use Rattle.clifford_rest.proofs.circuit.reversed.Goals as goal
+use Rattle.clifford_rest.proofs.circuit.inverse_circuit.Goals as goal
 
 pub loop-place-preserved : goal.loop-place-preserved
 loop-place-preserved c = (

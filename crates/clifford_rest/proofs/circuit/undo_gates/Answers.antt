@@ -4,7 +4,7 @@ use Rattle.channel_rep.specs.Gates.{GateFits}
 use Rattle.tc_bridge.proofs.Conjugations.{all-append}
 use Rattle.clifford_rest.specs.Sweep.{undo_list}
 use Rattle.clifford_rest.proofs.Lists.{undo_list_more}
-use Rattle.clifford_rest.proofs.circuit.undoing.Goals as goal
+use Rattle.clifford_rest.proofs.circuit.undo_gates.Goals as goal
 
 pub loop-q-init : goal.loop-q-init
 unfolding undo_list

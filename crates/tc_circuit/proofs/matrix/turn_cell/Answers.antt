@@ -5,7 +5,7 @@ use Rattle.ring_laws.specs.Cyclotomic.{cyclotomics, ω, one_number, times}
 use Rattle.ring_laws.proofs.Cyclotomic.{one-times}
 use Rattle.tc_circuit.specs.Bits.{has_bit}
 use Rattle.tc_circuit.specs.Grid.{entries}
-use Rattle.tc_circuit.proofs.matrix.turned_by.Goals as goal
+use Rattle.tc_circuit.proofs.matrix.turn_cell.Goals as goal
 
 pub returns-else-is_set : goal.returns-else-is_set
 returns-else-is_set c =

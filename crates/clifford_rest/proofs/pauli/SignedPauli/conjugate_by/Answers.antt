@@ -1,11 +1,11 @@
 use Rattle.channel_rep.specs.declared.gate.ChannelGate.TheVariants.{H}
 use Rattle.clifford_rest.proofs.Lists.{conjugated_by_more, conjugated_by_all}
-use Rattle.clifford_rest.proofs.pauli.SignedPauli.conjugated_by.Goals as goal
+use Rattle.clifford_rest.proofs.pauli.SignedPauli.conjugate_by.Goals as goal
 
 pub loop-gate-preserved : goal.loop-gate-preserved
 loop-gate-preserved c = (
-  c.conjugated-p.ensures.below,
-  conjugated_by_more c.args.n c.args.gates.now c.loop-gate.gate-index (H 0) c.args.self c.loop-gate.p c.conjugated-p.result c.loop-gate-test.true c.loop-gate.invariant.1 c.conjugated-p.ensures.value,
+  c.conjugate-p.ensures.below,
+  conjugated_by_more c.args.n c.args.gates.now c.loop-gate.gate-index (H 0) c.args.self c.loop-gate.p c.conjugate-p.result c.loop-gate-test.true c.loop-gate.invariant.1 c.conjugate-p.ensures.value,
 )
 
 pub returns-clause-value : goal.returns-clause-value
