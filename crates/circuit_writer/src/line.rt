@@ -7,7 +7,7 @@ use std::alloc::AllocError;
 use tc_circuit::Gate;
 
 /// The most bytes that a gate's line has: `cx q[0],q[1];` and a line feed.
-pub(crate) const LONGEST_LINE: usize = 14;
+pub const LONGEST_LINE: usize = 14;
 
 /// A qubit of the register q.
 fn qubit_name(qubit: u8) -> &'static str
@@ -49,7 +49,7 @@ fn push_cx(out: &mut String, control: u8, target: u8) -> Result<(), AllocError>
 
 /// Appends the line of a gate.
 #[tactic(auto, unfolding(crate::specs::Shown::gate_line))]
-pub(crate) fn push_gate(out: &mut String, gate: Gate) -> Result<(), AllocError>
+pub fn push_gate(out: &mut String, gate: Gate) -> Result<(), AllocError>
     requires { Fits 3 gate }
     ensures { OnOk result (string_bytes out.new ≡ string_bytes out.old ++ gate_line gate) }
 {

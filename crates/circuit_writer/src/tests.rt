@@ -7,6 +7,7 @@ use std::alloc::Global;
 use std::test::Fail;
 use tc_circuit::{Circuit, Gate};
 
+/// Whether a gate is one of so many qubits.
 fn fits(n: u8, gate: Gate) -> bool
     ensures { IsTrue result → Fits n gate }
 {
@@ -16,6 +17,7 @@ fn fits(n: u8, gate: Gate) -> bool
     }
 }
 
+/// The circuit of these gates, which have to fit.
 fn circuit(alloc: Global, n: u8, gates: &[Gate]) -> Result<Circuit, Fail>
     requires some { 0 < n }
     requires few { n ≤ 3 }
@@ -32,6 +34,7 @@ fn circuit(alloc: Global, n: u8, gates: &[Gate]) -> Result<Circuit, Fail>
     Ok(circuit)
 }
 
+/// The word of the letters of these codes.
 fn word(alloc: Global, n: u8, codes: &[u8]) -> Result<Vec<Pauli>, Fail>
     ensures { IfOk result (λ word. All (λ letter. letter.qubits ≡ n) word.items) }
 {
@@ -42,6 +45,7 @@ fn word(alloc: Global, n: u8, codes: &[u8]) -> Result<Vec<Pauli>, Fail>
     Ok(word)
 }
 
+/// Circuits with their prints, written by hand.
 #[test]
 fn prints(rt: HostRuntime) -> Result<(), Fail> {
     let every_gate = [

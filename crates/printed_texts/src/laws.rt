@@ -21,5 +21,6 @@ pub fn printed_texts_read_back()
         → t_count_of gates ≤ most_t_gates → length gates ≤ most_statements - 2 → All (λ letter. All (λ c. c ≢ 10) letter) letters
         → Reads (shown n gates letters) (record { qubits = n; gates = gates }) }
 {
+    // The include, the register and the gates of a print are taken.
     statements_within_limits_are_taken();
 }

@@ -11,6 +11,7 @@ use std::test::Fail;
 use tc_circuit::Circuit;
 use tc_circuit::Gate::{self, Cx, H, S, Sdg, T, Tdg};
 
+/// Whether a gate is one of so many qubits.
 fn fits(n: u8, gate: Gate) -> bool
     ensures { IsTrue result → Fits n gate }
 {
@@ -20,6 +21,7 @@ fn fits(n: u8, gate: Gate) -> bool
     }
 }
 
+/// The circuit of these gates, which have to fit.
 fn circuit(alloc: Global, n: u8, gates: &[Gate]) -> Result<Circuit, Fail>
     requires some { 0 < n }
     requires few { n ≤ 3 }
@@ -36,7 +38,7 @@ fn circuit(alloc: Global, n: u8, gates: &[Gate]) -> Result<Circuit, Fail>
     Ok(circuit)
 }
 
-// Adds a gate so many times.
+/// Adds a gate so many times.
 fn push_times(circuit: &mut Circuit, gate: Gate, times: usize) -> Result<(), AllocError>
     requires { Fits circuit.old.qubits gate }
     ensures { circuit.new.qubits ≡ circuit.old.qubits }
@@ -47,6 +49,7 @@ fn push_times(circuit: &mut Circuit, gate: Gate, times: usize) -> Result<(), All
     Ok(())
 }
 
+/// The word of the letters of these codes.
 fn word(alloc: Global, n: u8, codes: &[u8]) -> Result<Vec<Pauli>, Fail>
     ensures { IfOk result (λ word. All (λ letter. letter.qubits ≡ n) word.items) }
 {
@@ -111,8 +114,10 @@ const CIRCUITS: [(u8, &[Gate], &[u8]); 7] = [
     ),
 ];
 
+/// A print reads as its circuit, whose print it is.
 #[test]
 fn prints_read_back(rt: HostRuntime) -> Result<(), Fail> {
+    // The law is a call that does nothing.
     printed_texts_read_back();
     for (n, gates, codes) in CIRCUITS {
         assert!(rt; 0 < n && n <= 3);
@@ -140,6 +145,7 @@ const LIMITS: [(usize, usize, Option<u8>); 5] = [
     (0, MOST_GATES + 1, Some(10)),
 ];
 
+/// Prints within the limits are read, and those past them refused.
 #[test]
 fn limits(rt: HostRuntime) -> Result<(), Fail> {
     for (t, h, refusal) in LIMITS {

@@ -9,10 +9,6 @@ use Rattle.qasm_angle.specs.declared.terms.Term.{Term}
 use Rattle.qasm_angle.specs.declared.angles.AngleValue.{AngleValue}
 use Rattle.qasm_angle.specs.declared.angles.AngleValue.TheVariants.{Eighths, Inexact, NotAngle}
 
--- the token lies in the text
-abbrev pub IsWithin : List ℕ → Token → Type 0
-IsWithin text t = (t.start ≤ t.end) × (t.end ≤ length text)
-
 -- so many times pi, divided
 abbrev pub ratio : ℕ → ℕ → Term
 ratio times over = record { times = times; over = over }

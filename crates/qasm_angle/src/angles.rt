@@ -1,7 +1,8 @@
 // What tokens are as an angle.
 ghost use Rattle.std.specs.Prelude.{All, map};
 ghost use Rattle.qasm_angle.specs.Symbols.{symbol_of};
-ghost use Rattle.qasm_angle.specs.Angles.{IsWithin, HasValue};
+ghost use Rattle.qasm_lex.specs.Tokens.{IsWithin};
+ghost use Rattle.qasm_angle.specs.Angles.{HasValue};
 
 use crate::readings::AngleReading;
 use qasm_lex::Token;

@@ -12,7 +12,7 @@ use qasm_lex::Kind;
 
 /// A sum of terms: whether each is exact, and if so, the eighths of a full turn, modulo 8.
 #[derive(Clone, Copy)]
-pub(crate) struct Sum {
+pub struct Sum {
     pub exact: bool,
     pub eighths: u8,
 }

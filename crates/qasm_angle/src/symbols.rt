@@ -91,7 +91,7 @@ fn mark(bytes: &[u8]) -> Symbol
 
 /// What a token of this kind with these bytes is.
 #[tactic(auto, unfolding(crate::specs::Symbols::symbol))]
-pub(crate) fn symbol_from(kind: Kind, bytes: &[u8]) -> Symbol
+pub fn symbol_from(kind: Kind, bytes: &[u8]) -> Symbol
     ensures { result ≡ symbol kind bytes.now }
 {
     match kind {

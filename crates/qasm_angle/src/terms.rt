@@ -7,7 +7,7 @@ use crate::symbols::Symbol;
 
 /// So many times pi, divided.
 #[derive(Clone, Copy)]
-pub(crate) struct Term {
+pub struct Term {
     /// How many times pi.
     pub times: u32,
     /// The divisor.
@@ -16,7 +16,7 @@ pub(crate) struct Term {
 
 /// A place in a term, by what stands before it.
 #[derive(Clone, Copy)]
-pub(crate) enum Place {
+pub enum Place {
     /// Nothing.
     Start,
     /// A sign.
@@ -41,7 +41,7 @@ pub(crate) enum Place {
 
 /// The place behind a symbol.
 #[tactic(auto, unfolding(crate::specs::Steps::place_behind))]
-pub(crate) fn place_behind(place: Place, symbol: Symbol) -> Place
+pub fn place_behind(place: Place, symbol: Symbol) -> Place
     ensures { result ≡ place_behind place symbol }
 {
     match (place, symbol) {
@@ -60,7 +60,7 @@ pub(crate) fn place_behind(place: Place, symbol: Symbol) -> Place
 
 /// The term that ends at a place, if one does.
 #[tactic(auto, unfolding(crate::specs::Steps::term_at))]
-pub(crate) fn term_at(place: Place) -> Option<Term>
+pub fn term_at(place: Place) -> Option<Term>
     ensures { result ≡ term_at place }
 {
     match place {
@@ -73,7 +73,7 @@ pub(crate) fn term_at(place: Place) -> Option<Term>
 }
 
 /// Whether a term is a whole number of eighths of a full turn.
-pub(crate) fn is_exact(term: Term) -> bool
+pub fn is_exact(term: Term) -> bool
     ensures { result ≡ is_exact term }
 {
     term.over != 0 && (4 * u64::from(term.times)) % u64::from(term.over) == 0

@@ -88,6 +88,7 @@ fn value_of(alloc: Global, text: &[u8]) -> Option<AngleValue> {
     }
 }
 
+/// The tokens of each text are the angle beside it.
 #[test]
 fn tokens_are_angles(rt: HostRuntime) {
     for (text, value) in &ANGLES {
@@ -95,6 +96,7 @@ fn tokens_are_angles(rt: HostRuntime) {
     }
 }
 
+/// A reading that takes a text's tokens one by one ends at the value that `angle` gives.
 #[test]
 fn readings_go_token_by_token(rt: HostRuntime) {
     let reading = AngleReading::new();

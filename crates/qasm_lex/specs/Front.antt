@@ -66,9 +66,9 @@ front (b ∷ bs) = do
   Some (kind, 1 + n)
 
 -- the length of the blank or the comment at the front
-unfoldable pub skipped : List ℕ → ℕ
-skipped [] = 0
-skipped (b ∷ bs) =
+unfoldable pub skip_len : List ℕ → ℕ
+skip_len [] = 0
+skip_len (b ∷ bs) =
     if is_blank b then 1
     else if starts_with nat_eq (b ∷ bs) (codes "//") then position_or_len (λ c. c == 10) (b ∷ bs)
     else 0

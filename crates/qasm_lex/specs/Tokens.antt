@@ -61,6 +61,10 @@ abbrev pub IsFault : List ℕ → LexFault → Type 0
 IsFault text (BadByte p) = Bad text p
 IsFault text Memory = Unit {0}
 
+-- the token lies in the text
+abbrev pub IsWithin : List ℕ → Token → Type 0
+IsWithin text t = (t.start ≤ t.end) × (t.end ≤ length text)
+
 -- the tokens have bytes of the text, one after another, from place p on
 abbrev pub AreSpans : List ℕ → ℕ → List Token → Type 0
 AreSpans text p [] = Unit {0}

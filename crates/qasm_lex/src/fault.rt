@@ -16,6 +16,7 @@ pub enum LexFault {
 impl<T: Drop> From<AllocFailed<T>> for LexFault {
     ghost from_gives = { λ _ e. e ≡ Memory };
 
+    /// Of why an allocation failed, only that it did.
     fn from(_: AllocFailed<T>) -> LexFault {
         LexFault::Memory
     }

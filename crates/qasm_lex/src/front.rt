@@ -6,21 +6,21 @@ ghost use Rattle.qasm_lex.specs.Front.{kind_at, fraction_len, number_rest, close
 
 use crate::token::Kind;
 
-// An ASCII letter or `_`.
+/// An ASCII letter or `_`.
 fn is_name_start(b: u8) -> bool
     ensures { result ≡ is_name_start b }
 {
     b.is_ascii_alphabetic() || b == b'_'
 }
 
-// An ASCII letter, a digit or `_`.
+/// An ASCII letter, a digit or `_`.
 fn is_name_byte(b: u8) -> bool
     ensures { result ≡ is_name_byte b }
 {
     is_name_start(b) || b.is_ascii_digit()
 }
 
-// The kind of the tokens that begin with the byte.
+/// The kind of the tokens that begin with the byte.
 #[tactic(auto, unfolding(crate::specs::Front::kind_at))]
 fn kind_at(b: u8) -> Option<Kind>
     ensures { result ≡ kind_at b }
@@ -46,7 +46,7 @@ fn kind_at(b: u8) -> Option<Kind>
     }
 }
 
-// How many bytes of a name are at the front.
+/// How many bytes of a name are at the front.
 #[tactic(auto, using(crate::proofs::Lens::lens))]
 fn name_len(text: &[u8]) -> usize
     ensures value { result ≡ prefix_len is_name_byte text.now }
@@ -55,7 +55,7 @@ fn name_len(text: &[u8]) -> usize
     text.iter().take_while(|b| is_name_byte(**b)).count()
 }
 
-// How many digits are at the front.
+/// How many digits are at the front.
 #[tactic(auto, using(crate::proofs::Lens::lens))]
 fn digits_len(text: &[u8]) -> usize
     ensures value { result ≡ prefix_len is_digit text.now }
@@ -64,7 +64,7 @@ fn digits_len(text: &[u8]) -> usize
     text.iter().take_while(|b| b.is_ascii_digit()).count()
 }
 
-// The length of a point with digits behind it, or 0.
+/// The length of a point with digits behind it, or 0.
 #[tactic(auto, unfolding(crate::specs::Front::fraction_len))]
 fn fraction_len(text: &[u8]) -> usize
     ensures value { result ≡ fraction_len text.now }
@@ -79,7 +79,7 @@ fn fraction_len(text: &[u8]) -> usize
     }
 }
 
-// How many bytes of a number stand behind its first digit.
+/// How many bytes of a number stand behind its first digit.
 fn number_rest(text: &[u8]) -> usize
     ensures value { result ≡ number_rest text.now }
     ensures within { result ≤ length text.now }
@@ -91,7 +91,7 @@ fn number_rest(text: &[u8]) -> usize
     n + fraction_len(&text[n..])
 }
 
-// How many bytes at the front are neither `"` nor line feed.
+/// How many bytes at the front are neither `"` nor line feed.
 #[tactic(auto, using(crate::proofs::Lens::lens))]
 fn plain_len(text: &[u8]) -> usize
     ensures value { result ≡ prefix_len is_plain text.now }
@@ -102,7 +102,7 @@ fn plain_len(text: &[u8]) -> usize
         .count()
 }
 
-// How many bytes a quoted text has behind its first `"`, if it is closed on its line.
+/// How many bytes a quoted text has behind its first `"`, if it is closed on its line.
 #[tactic(auto, unfolding(crate::specs::Front::closed_len))]
 fn closed_len(text: &[u8]) -> Option<usize>
     ensures value { result ≡ closed_len text.now }
@@ -116,7 +116,7 @@ fn closed_len(text: &[u8]) -> Option<usize>
     }
 }
 
-// How many bytes a token of the kind has behind its first.
+/// How many bytes a token of the kind has behind its first.
 #[tactic(auto, unfolding(crate::specs::Front::rest_len))]
 fn rest_len(kind: Kind, text: &[u8]) -> Option<usize>
     ensures value { result ≡ rest_len kind text.now }
@@ -130,9 +130,9 @@ fn rest_len(kind: Kind, text: &[u8]) -> Option<usize>
     }
 }
 
-// The kind and the length of the longest token at the front.
+/// The kind and the length of the longest token at the front.
 #[tactic(auto, unfolding(crate::specs::Front::front))]
-pub(crate) fn front(text: &[u8]) -> Option<(Kind, usize)>
+pub fn front(text: &[u8]) -> Option<(Kind, usize)>
     ensures value { result ≡ front text.now }
     ensures within { IfSome result (λ f. f.1 ≤ length text.now) }
 {

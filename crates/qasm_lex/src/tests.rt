@@ -78,6 +78,7 @@ const TEXTS: [(&[u8], &[Cut]); 33] = [
     ),
 ];
 
+/// Each text is cut into the tokens beside it.
 #[test]
 fn texts_are_cut(rt: HostRuntime) {
     for (text, want) in TEXTS {
@@ -106,6 +107,7 @@ const BAD: [(&[u8], usize); 14] = [
     (b"1.5.\"", 4),
 ];
 
+/// Each text has its first bad byte at the place beside it.
 #[test]
 fn bad_bytes_are_found(rt: HostRuntime) {
     for (text, place) in BAD {
@@ -120,7 +122,7 @@ fn bad_bytes_are_found(rt: HostRuntime) {
 const GOOD: &[u8] =
     b" \t\n\r;,[]{}()+-*/^>=.0123456789_ABCDEFGHIJKLMNOPQRSTUVWXYZabcdefghijklmnopqrstuvwxyz";
 
-// A byte alone is a text with a token or a blank, or it is bad.
+/// A byte alone is a text with a token or a blank, or it is bad.
 #[test]
 fn every_byte_is_good_or_bad(rt: HostRuntime) {
     for byte in 0..=255 {

@@ -4,10 +4,10 @@ use Rattle.std.specs.Prelude.{All, filter, codes, get_or}
 use Rattle.std.proofs.lemmas.List.{length-map}
 use Rattle.std.proofs.Math.ListN.{get_or-map}
 use Rattle.std.proofs.lemmas.List.Elements.{All-filter, All-nil, All-cons, All-head, All-tail}
-use Rattle.qasm_lex.specs.Tokens.{Bad}
 use Rattle.qasm_lex.specs.declared.token.Token.{Token}
 use Rattle.qasm_lex.proofs.Cutting.{tokens_or_bad}
-use Rattle.qasm_reader.specs.Lexemes.{Lexeme, lexeme_of, IsWithin, is_ident}
+use Rattle.qasm_lex.specs.Tokens.{Bad, IsWithin}
+use Rattle.qasm_reader.specs.Lexemes.{Lexeme, lexeme_of, is_ident}
 use Rattle.qasm_reader.specs.declared.lexemes.Lexeme.{Lexeme as CodeLexeme}
 use Rattle.qasm_reader.specs.View.{lexeme, lexemes}
 use Rattle.qasm_reader.specs.Read.{HasLexemes}

@@ -4,9 +4,8 @@ use Rattle.std.specs.Prelude.{codes, All}
 use Rattle.std.specs.List.{AllByRecursion}
 use Rattle.std.specs.Str.{bytes_eq}
 use Rattle.std.proofs.lemmas.Bool.{cases_eq, and_parts, and_from}
-use Rattle.std.proofs.lemmas.List.Elements.{All-nil, All-cons}
 use Rattle.qasm_lex.specs.declared.token.Kind.TheVariants.{Number, Semi}
-use Rattle.qasm_lex.specs.Tokens.{Bad, AreSpans, IsFault as IsLexFault}
+use Rattle.qasm_lex.specs.Tokens.{Bad, IsFault as IsLexFault}
 use Rattle.qasm_lex.specs.declared.token.Token.{Token}
 use Rattle.qasm_lex.specs.declared.fault.LexFault.{LexFault}
 use Rattle.qasm_lex.specs.declared.fault.LexFault.TheVariants.{BadByte as BadByteAt, Memory as NoMemory}
@@ -16,7 +15,7 @@ use Rattle.qasm_reader.specs.declared.fault.ReadFault.{ReadFault}
 use Rattle.qasm_reader.specs.declared.fault.ReadFault.TheVariants.{Refused as Refusing, Memory}
 use Rattle.qasm_reader.specs.declared.refusal.Refusal.{Refusal}
 use Rattle.qasm_reader.specs.declared.refusal.Refusal.TheVariants.{Header, BadByte, Qubits}
-use Rattle.qasm_reader.specs.Lexemes.{Lexeme, lexeme_of, IsWithin, statements, is_ident, is_kind}
+use Rattle.qasm_reader.specs.Lexemes.{Lexeme, lexeme_of, statements, is_ident, is_kind}
 use Rattle.qasm_reader.specs.Forms.{HasForm}
 use Rattle.qasm_reader.specs.Parse.{form_of, headed_at}
 use Rattle.qasm_reader.specs.State.{State, start}
@@ -266,8 +265,3 @@ lex_fault text NoMemory h = tt
 pub scan_fault : (text : List ℕ) (ws : List Lexeme) (e : ReadFault) → HasStatements text (stated (statements ws)) → IsScanFault ws e → IsFault text e
 scan_fault text ws (Refusing n p) h (why, scanned, number) = (why, IsRefused (stated (statements ws)) h scanned, number)
 scan_fault text ws Memory h e = tt
-
--- tokens that stand one after another in the text lie in it
-pub within : (text : List ℕ) (p : ℕ) (ts : List Token) → AreSpans text p ts → All (IsWithin text) ts
-within text p [] s = All-nil (IsWithin text)
-within text p (t ∷ ts) s = All-cons (IsWithin text) t ts (omega (arith, s.1), s.2) (within text t.end ts s.3)

@@ -18,10 +18,6 @@ pub record Lexeme : Type 0 where
 abbrev pub lexeme_of : List ℕ → Token → Lexeme
 lexeme_of text t = record { kind = t.kind; bytes = slice_range text t.start t.end; place = t.start }
 
--- the token lies in the text
-abbrev pub IsWithin : List ℕ → Token → Type 0
-IsWithin text t = (t.start ≤ t.end) × (t.end ≤ length text)
-
 -- a number for each kind, to tell them apart
 abbrev pub code_of : Kind → ℕ
 code_of Ident = 0

@@ -91,7 +91,7 @@ fn is_bad_entry<'a>(
 }
 
 /// Whether a name stands twice among the names of a definition, or an entry of its body is bad.
-pub(crate) fn has_bad_body<'a>(
+pub fn has_bad_body<'a>(
     alloc: Global,
     list: &Definitions<'a>,
     definition: &Definition<'a>,
@@ -111,7 +111,7 @@ pub(crate) fn has_bad_body<'a>(
     Ok(false)
 }
 
-pub(crate) const NOTHING: Size = Size {
+pub const NOTHING: Size = Size {
     arity: 0,
     length: 0,
     t_count: 0,
@@ -140,7 +140,7 @@ fn entry_size<'a>(list: &Definitions<'a>, line: &Entry<'a>) -> Size
 }
 
 /// The size of the gate of a definition, where gates are counted up to one more than the most.
-pub(crate) fn body_size<'a>(list: &Definitions<'a>, definition: &Definition<'a>) -> Size
+pub fn body_size<'a>(list: &Definitions<'a>, definition: &Definition<'a>) -> Size
     requires { AreKept list.now }
     ensures { result ≡ counted_size (defined (known_behind known list.now.list.items) (name_list definition.now.names.items) (entries definition.now.body.items)) }
 {
@@ -223,7 +223,7 @@ fn push_entry<'a>(
 }
 
 /// The gates of a definition, on the places of its names, where there is room for so many.
-pub(crate) fn gates_defined<'a>(
+pub fn gates_defined<'a>(
     alloc: Global,
     list: &Definitions<'a>,
     definition: &Definition<'a>,

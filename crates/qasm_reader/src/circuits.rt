@@ -17,7 +17,7 @@ fn qubit_at(qubits: &[u8], a: u8) -> u8
 }
 
 /// The gate with qubits in place of the numbers of the arguments.
-pub(crate) fn placed(qubits: &[u8], gate: Gate) -> Gate
+pub fn placed(qubits: &[u8], gate: Gate) -> Gate
     ensures { result ≡ placed qubits.now gate }
 {
     match gate {
@@ -55,7 +55,7 @@ fn push_each(circuit: &mut Circuit, gates: &[Gate], qubits: &[u8]) -> Result<(),
 }
 
 /// Adds the gates of a gate of this size, which may be known, on these qubits.
-pub(crate) fn push_gates(
+pub fn push_gates(
     circuit: &mut Circuit,
     size: Option<Size>,
     gates: &[Gate],
@@ -78,7 +78,7 @@ pub(crate) fn push_gates(
 }
 
 /// How many of the gates are T gates.
-pub(crate) fn t_count(gates: &[Gate]) -> usize
+pub fn t_count(gates: &[Gate]) -> usize
     ensures { result ≡ t_count_of gates.now }
 {
     gates
@@ -89,7 +89,7 @@ pub(crate) fn t_count(gates: &[Gate]) -> usize
 
 /// How many gates there are where a gate of this number of arguments, with so many gates, is applied to so many qubits, or the
 /// greatest number where there are more.
-pub(crate) fn times(arity: usize, count: usize, qubits: usize) -> usize
+pub fn times(arity: usize, count: usize, qubits: usize) -> usize
     ensures { result ≡ min (times arity count qubits) usize.MAX }
 {
     if arity == 1 {
@@ -100,7 +100,7 @@ pub(crate) fn times(arity: usize, count: usize, qubits: usize) -> usize
 }
 
 /// How many T gates a gate of this size, which may be known, has on these qubits, or the greatest number where it has more.
-pub(crate) fn t_count_at(size: Option<Size>, qubits: &[u8]) -> usize
+pub fn t_count_at(size: Option<Size>, qubits: &[u8]) -> usize
     ensures { result ≡ min (count_at (λ z. z.t_count) size (length qubits.now)) usize.MAX }
 {
     match size {
@@ -110,7 +110,7 @@ pub(crate) fn t_count_at(size: Option<Size>, qubits: &[u8]) -> usize
 }
 
 /// How many gates it has on them, or the greatest number where it has more.
-pub(crate) fn length_at(size: Option<Size>, qubits: &[u8]) -> usize
+pub fn length_at(size: Option<Size>, qubits: &[u8]) -> usize
     ensures { result ≡ min (count_at (λ z. z.length) size (length qubits.now)) usize.MAX }
 {
     match size {

@@ -25,7 +25,7 @@ use std::collections::{BTreeMap, BTreeSet};
 use tc_circuit::{Circuit, Gate};
 
 /// Before the first statement.
-pub(crate) fn new_scan<'a>(alloc: Global) -> Scan<'a>
+pub fn new_scan<'a>(alloc: Global) -> Scan<'a>
     ensures value { state result ≡ start }
     ensures kept { AreKept result.definitions }
 {
@@ -224,7 +224,7 @@ fn with_form<'a>(
 }
 
 /// The scan behind a statement to which no row applies.
-pub(crate) fn with_statement<'a>(
+pub fn with_statement<'a>(
     alloc: Global,
     scan: Scan<'a>,
     statement: Statement<'_, 'a>,

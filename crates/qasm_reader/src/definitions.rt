@@ -22,7 +22,7 @@ fn place_of<'a>(places: &BTreeMap<&'a [u8], usize>, name: &'a [u8]) -> Option<us
 }
 
 /// The definition of the gate of the name, if it was defined.
-pub(crate) fn definition_of<'b, 'a>(
+pub fn definition_of<'b, 'a>(
     list: &'b Definitions<'a>,
     name: &'a [u8],
 ) -> Option<&'b Defined<'a>>
@@ -49,7 +49,7 @@ fn add_place<'a>(
 }
 
 /// One definition more.
-pub(crate) fn push_definition<'a>(
+pub fn push_definition<'a>(
     list: &mut Definitions<'a>,
     defined: Defined<'a>,
 ) -> Result<(), AllocError>
@@ -85,7 +85,7 @@ fn first_size(name: &[u8]) -> Option<Size>
 }
 
 /// The size of the gate of the name, if it is known.
-pub(crate) fn size_by_name<'a>(list: &Definitions<'a>, name: &'a [u8]) -> Option<Size>
+pub fn size_by_name<'a>(list: &Definitions<'a>, name: &'a [u8]) -> Option<Size>
     requires { AreKept list.now }
     ensures { result ≡ option_map size_of (known_behind known list.now.list.items name.now) }
 {
@@ -106,7 +106,7 @@ fn first_gates(name: &[u8]) -> &'static [Gate]
 }
 
 /// The gates of the gate of the name, which takes at most three arguments, on the numbers of these; none where it isn't known.
-pub(crate) fn gates_by_name<'b, 'a>(list: &'b Definitions<'a>, name: &'a [u8]) -> &'b [Gate]
+pub fn gates_by_name<'b, 'a>(list: &'b Definitions<'a>, name: &'a [u8]) -> &'b [Gate]
     requires kept { AreKept list.now }
     requires narrow { IfSome (known_behind known list.now.list.items name.now) (λ g. g.arity ≤ most_qubits) }
     ensures { result.now ≡ gates_of (known_behind known list.now.list.items name.now) }
@@ -118,7 +118,7 @@ pub(crate) fn gates_by_name<'b, 'a>(list: &'b Definitions<'a>, name: &'a [u8]) -
 }
 
 /// The size of the gate of an angle, if it is exact.
-pub(crate) fn size_by_value(value: AngleValue) -> Option<Size>
+pub fn size_by_value(value: AngleValue) -> Option<Size>
     ensures { result ≡ option_map size_of (turned value) }
 {
     match known_by_value(value) {
@@ -128,7 +128,7 @@ pub(crate) fn size_by_value(value: AngleValue) -> Option<Size>
 }
 
 /// The gates of the gate of an angle; none where it isn't exact.
-pub(crate) fn gates_by_value(value: AngleValue) -> &'static [Gate]
+pub fn gates_by_value(value: AngleValue) -> &'static [Gate]
     ensures { result.now ≡ gates_of (turned value) }
 {
     match known_by_value(value) {
@@ -139,13 +139,13 @@ pub(crate) fn gates_by_value(value: AngleValue) -> &'static [Gate]
 
 /// Where the gates of a gate come from: the name of one that may be known, or an angle.
 #[derive(Clone, Copy)]
-pub(crate) enum GateSource<'a> {
+pub enum GateSource<'a> {
     Name(&'a [u8]),
     Angle(AngleValue),
 }
 
 /// The gates of a gate that takes at most three arguments, on the numbers of these; none where it isn't known.
-pub(crate) fn gates_from<'b, 'a>(list: &'b Definitions<'a>, source: GateSource<'a>) -> &'b [Gate]
+pub fn gates_from<'b, 'a>(list: &'b Definitions<'a>, source: GateSource<'a>) -> &'b [Gate]
     requires kept { AreKept list.now }
     requires narrow { IfSome (gate_from (known_behind known list.now.list.items) source) (λ g. g.arity ≤ most_qubits) }
     ensures { result.now ≡ gates_of (gate_from (known_behind known list.now.list.items) source.entry) }

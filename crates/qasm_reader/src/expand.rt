@@ -61,7 +61,7 @@ fn qubits_of(alloc: Global, list: &[Register], args: &[Argument]) -> Result<Vec<
 }
 
 /// The qubits that the arguments of a gate name.
-pub(crate) fn gate_qubits(
+pub fn gate_qubits(
     alloc: Global,
     scan: &Scan,
     found: &Option<Form>,
@@ -83,7 +83,7 @@ fn holds(qubits: &[u8], q: u8) -> bool
 }
 
 /// Whether a qubit stands twice in the list.
-pub(crate) fn has_twins(qubits: &[u8]) -> bool
+pub fn has_twins(qubits: &[u8]) -> bool
     ensures { result ≡ has_twins qubits.now }
 {
     for i in 0..qubits.len() {

@@ -41,7 +41,7 @@ pub enum ReadFault {
 }
 
 /// The fault of a text that is refused for the reason at the place.
-pub(crate) fn refused(why: Refusal, place: usize) -> ReadFault
+pub fn refusal_at(why: Refusal, place: usize) -> ReadFault
     ensures { result ≡ Refused (number_of why) place }
 {
     ReadFault::Refused {
@@ -53,6 +53,7 @@ pub(crate) fn refused(why: Refusal, place: usize) -> ReadFault
 impl From<AllocError> for ReadFault {
     ghost from_gives = { λ _ e. e ≡ Memory };
 
+    /// Want of memory is a fault of its own.
     fn from(_: AllocError) -> ReadFault {
         ReadFault::Memory
     }
@@ -61,6 +62,7 @@ impl From<AllocError> for ReadFault {
 impl<T: Drop> From<AllocFailed<T>> for ReadFault {
     ghost from_gives = { λ _ e. e ≡ Memory };
 
+    /// So it is where a value was handed back.
     fn from(_: AllocFailed<T>) -> ReadFault {
         ReadFault::Memory
     }
@@ -69,9 +71,10 @@ impl<T: Drop> From<AllocFailed<T>> for ReadFault {
 impl From<LexFault> for ReadFault {
     ghost from_gives = { λ fault e. e ≡ fault_of fault };
 
+    /// A bad byte is a reason for refusal, and want of memory stays so.
     fn from(fault: LexFault) -> ReadFault {
         match fault {
-            LexFault::BadByte(place) => refused(Refusal::BadByte, place),
+            LexFault::BadByte(place) => refusal_at(Refusal::BadByte, place),
             LexFault::Memory => ReadFault::Memory,
         }
     }

@@ -10,7 +10,7 @@ use std::alloc::AllocError;
 use std::collections::BTreeSet;
 
 /// The number that digits write, or one more than the most qubits where it is greater than these.
-pub(crate) fn small_value(digits: &[u8]) -> u8
+pub fn small_value(digits: &[u8]) -> u8
     ensures { result ≡ min (value digits.now) (most_qubits + 1) }
 {
     let mut n = 0;
@@ -21,14 +21,14 @@ pub(crate) fn small_value(digits: &[u8]) -> u8
 }
 
 /// Whether the set has the name.
-pub(crate) fn contains_name<'a>(set: &BTreeSet<&'a [u8]>, name: &'a [u8]) -> bool
+pub fn contains_name<'a>(set: &BTreeSet<&'a [u8]>, name: &'a [u8]) -> bool
     ensures { result ≡ names set.now name.now }
 {
     set.contains(&name)
 }
 
 /// Adds a name.
-pub(crate) fn add_name<'a>(set: &mut BTreeSet<&'a [u8]>, name: &'a [u8]) -> Result<(), AllocError>
+pub fn add_name<'a>(set: &mut BTreeSet<&'a [u8]>, name: &'a [u8]) -> Result<(), AllocError>
     ensures { OnOk result ((other : List ℕ) → names set.new other ≡ with_name name.now (names set.old) other) }
 {
     set.insert(name)?;
@@ -36,7 +36,7 @@ pub(crate) fn add_name<'a>(set: &mut BTreeSet<&'a [u8]>, name: &'a [u8]) -> Resu
 }
 
 /// The register of the name.
-pub(crate) fn find_register<'a>(list: &[Register<'a>], name: &[u8]) -> Option<Register<'a>>
+pub fn find_register<'a>(list: &[Register<'a>], name: &[u8]) -> Option<Register<'a>>
     ensures { option_map register result ≡ find_register (registers list.now) name.now }
 {
     for r in list {

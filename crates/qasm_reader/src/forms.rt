@@ -14,14 +14,14 @@ use qasm_lex::Kind;
 use std::alloc::{AllocError, Global};
 
 #[derive(Clone, Copy)]
-pub(crate) struct Argument<'a> {
+pub struct Argument<'a> {
     pub name: &'a [u8],
     pub index: Option<&'a [u8]>,
 }
 
 /// A gate of an angle: its name, the tokens of the angle, and what the angle is.
 #[derive(Drop)]
-pub(crate) struct Rotation<'a> {
+pub struct Rotation<'a> {
     pub name: &'a [u8],
     pub angle: Vec<Lexeme<'a>>,
     pub value: AngleValue,
@@ -29,7 +29,7 @@ pub(crate) struct Rotation<'a> {
 
 /// An entry of a gate's body, on names.
 #[derive(Drop)]
-pub(crate) enum Entry<'a> {
+pub enum Entry<'a> {
     Barrier(Vec<&'a [u8]>),
     Call(&'a [u8], Vec<&'a [u8]>),
     Spin(Rotation<'a>, &'a [u8]),
@@ -37,14 +37,14 @@ pub(crate) enum Entry<'a> {
 
 /// A gate's name, its names, and its body.
 #[derive(Drop)]
-pub(crate) struct Definition<'a> {
+pub struct Definition<'a> {
     pub name: &'a [u8],
     pub names: Vec<&'a [u8]>,
     pub body: Vec<Entry<'a>>,
 }
 
 #[derive(Drop)]
-pub(crate) enum Form<'a> {
+pub enum Form<'a> {
     Include(&'a [u8]),
     Qreg(&'a [u8], &'a [u8]),
     Creg(&'a [u8], &'a [u8]),
@@ -201,7 +201,7 @@ fn in_parens<'b, 'a>(ws: &'b [Lexeme<'a>]) -> Option<(&'b [Lexeme<'a>], &'b [Lex
 }
 
 /// Whether it is the name of a gate of an angle.
-pub(crate) fn is_rotation(name: &[u8]) -> bool
+pub fn is_rotation(name: &[u8]) -> bool
     ensures { result ≡ is_rotation name.now }
 {
     name == b"u1".as_slice() || name == b"rz".as_slice()
@@ -497,7 +497,7 @@ fn form_behind<'a>(
 
 /// The form of a statement, if it has one.
 #[tactic(auto, unfolding(crate::specs::Parse::form_of, crate::specs::Parse::form_in))]
-pub(crate) fn form_of<'a>(
+pub fn form_of<'a>(
     alloc: Global,
     statement: &[Lexeme<'a>],
 ) -> Result<Option<Form<'a>>, AllocError>

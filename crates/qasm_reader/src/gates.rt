@@ -8,14 +8,14 @@ use tc_circuit::Gate;
 
 /// How many arguments a gate takes, and the gates that it stands for, whose qubits are the numbers of its arguments.
 #[derive(Clone, Copy)]
-pub(crate) struct Known<'a> {
+pub struct Known<'a> {
     pub arity: usize,
     pub gates: &'a [Gate],
 }
 
 /// How many arguments a gate takes, how many gates it stands for, and how many of them are T gates.
 #[derive(Clone, Copy)]
-pub(crate) struct Size {
+pub struct Size {
     pub arity: usize,
     pub length: usize,
     pub t_count: usize,
@@ -127,7 +127,7 @@ fn wide_by_name(name: &[u8]) -> Option<Known<'static>>
 
 /// The gate of the name.
 #[tactic(auto, unfolding(crate::specs::Known::known))]
-pub(crate) fn known_by_name(name: &[u8]) -> Option<Known<'static>>
+pub fn known_by_name(name: &[u8]) -> Option<Known<'static>>
     ensures { option_map known_gate result ≡ known name.now }
 {
     if name == b"h".as_slice() {
@@ -177,7 +177,7 @@ fn turn(j: u8) -> &'static [Gate]
 }
 
 /// The gate of an angle, if it is exact.
-pub(crate) fn known_by_value(value: AngleValue) -> Option<Known<'static>>
+pub fn known_by_value(value: AngleValue) -> Option<Known<'static>>
     ensures { option_map known_gate result ≡ turned value }
 {
     match value {

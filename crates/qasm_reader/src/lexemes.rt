@@ -2,21 +2,22 @@
 ghost use Rattle.std.specs.Prelude.{◌≡◌, ℕ, ◌≤◌, List, map, length, codes, IfOk, All, IsTrue, not, ◌&&◌};
 ghost use Rattle.std.specs.Str.{bytes_eq};
 ghost use Rattle.std.specs.List.{position_or_len, prefix_len};
-ghost use Rattle.qasm_reader.specs.Lexemes.{lexeme_of, IsWithin, is_kind, is_ident, is_free, is_whole, is_name, is_digits, is_reserved, closer};
+ghost use Rattle.qasm_lex.specs.Tokens.{IsWithin};
+ghost use Rattle.qasm_reader.specs.Lexemes.{lexeme_of, is_kind, is_ident, is_free, is_whole, is_name, is_digits, is_reserved, closer};
 ghost use Rattle.qasm_reader.specs.View.{lexeme, lexemes};
 
 use qasm_lex::{Kind, Token};
 use std::alloc::{AllocError, Global};
 
 #[derive(Clone, Copy)]
-pub(crate) struct Lexeme<'a> {
+pub struct Lexeme<'a> {
     pub kind: Kind,
     pub bytes: &'a [u8],
     pub place: usize,
 }
 
 /// The token with its bytes.
-pub(crate) fn lexeme_of<'a>(text: &'a [u8], token: &Token) -> Lexeme<'a>
+pub fn lexeme_of<'a>(text: &'a [u8], token: &Token) -> Lexeme<'a>
     requires { IsWithin text.now token.now }
     ensures { lexeme result ≡ lexeme_of text.now token.now }
 {
@@ -28,7 +29,7 @@ pub(crate) fn lexeme_of<'a>(text: &'a [u8], token: &Token) -> Lexeme<'a>
 }
 
 /// The lexemes of the tokens.
-pub(crate) fn lexemes_of<'a>(
+pub fn lexemes_of<'a>(
     alloc: Global,
     text: &'a [u8],
     tokens: &[Token],
@@ -44,21 +45,21 @@ pub(crate) fn lexemes_of<'a>(
 }
 
 /// Whether it is a token of the kind.
-pub(crate) fn is_kind(w: &Lexeme, kind: Kind) -> bool
+pub fn is_kind(w: &Lexeme, kind: Kind) -> bool
     ensures { result ≡ is_kind kind (lexeme w.now) }
 {
     w.kind == kind
 }
 
 /// Whether it is the Ident with these bytes.
-pub(crate) fn is_ident(w: &Lexeme, text: &[u8]) -> bool
+pub fn is_ident(w: &Lexeme, text: &[u8]) -> bool
     ensures { result ≡ is_ident text.now (lexeme w.now) }
 {
     is_kind(w, Kind::Ident) && w.bytes == text
 }
 
 /// Whether it is the Number with these bytes.
-pub(crate) fn is_number(w: &Lexeme, text: &[u8]) -> bool
+pub fn is_number(w: &Lexeme, text: &[u8]) -> bool
     ensures { result ≡ (is_kind Kind.Number (lexeme w.now) && bytes_eq (lexeme w.now).bytes text.now) }
 {
     is_kind(w, Kind::Number) && w.bytes == text
@@ -85,7 +86,7 @@ fn is_reserved(bytes: &[u8]) -> bool
 }
 
 /// Whether it is a name.
-pub(crate) fn is_name(w: &Lexeme) -> bool
+pub fn is_name(w: &Lexeme) -> bool
     ensures { result ≡ is_name (lexeme w.now) }
 {
     is_kind(w, Kind::Ident) && !is_reserved(w.bytes)
@@ -99,14 +100,14 @@ fn is_whole(bytes: &[u8]) -> bool
 }
 
 /// Whether it is a number without a point.
-pub(crate) fn is_digits(w: &Lexeme) -> bool
+pub fn is_digits(w: &Lexeme) -> bool
     ensures { result ≡ is_digits (lexeme w.now) }
 {
     is_kind(w, Kind::Number) && is_whole(w.bytes)
 }
 
 /// The kind of the token that ends a statement with this first token.
-pub(crate) fn closer(first: &Lexeme) -> Kind
+pub fn closer(first: &Lexeme) -> Kind
     ensures { result ≡ closer (lexeme first.now) }
 {
     if is_ident(first, b"gate".as_slice()) {
@@ -125,7 +126,7 @@ fn others(ws: &[Lexeme], kind: Kind) -> usize
 }
 
 /// How many lexemes stand before the first of the kind.
-pub(crate) fn before(ws: &[Lexeme], kind: Kind) -> usize
+pub fn before(ws: &[Lexeme], kind: Kind) -> usize
     ensures value { result ≡ position_or_len (is_kind kind) (lexemes ws.now) }
     ensures within { result ≤ length ws.now }
 {

@@ -1,14 +1,15 @@
 // A text, statement by statement.
 ghost use Rattle.std.specs.Prelude.{◌≡◌, ◌<◌, ◌≤◌, IfOk, IfErr, IfSome, IfNone, All, not, length, map, option_map};
 ghost use Rattle.std.specs.List.{prefix_len};
-ghost use Rattle.qasm_reader.specs.Lexemes.{lexeme_of, IsWithin, is_same_kind};
+ghost use Rattle.qasm_lex.specs.Tokens.{IsWithin};
+ghost use Rattle.qasm_reader.specs.Lexemes.{lexeme_of, is_same_kind};
 ghost use Rattle.qasm_reader.specs.Parse.{len_up_to, first_len, headed_at};
 ghost use Rattle.qasm_reader.specs.Read.{place_of, Reads, IsFault};
 ghost use Rattle.qasm_reader.specs.Run.{Takes, IsRowFault, Scans, IsScanFault};
 ghost use Rattle.qasm_reader.specs.View.{lexemes, AreKept, state};
 
 use crate::declare::{new_scan, with_statement};
-use crate::fault::{ReadFault, refused};
+use crate::fault::{ReadFault, refusal_at};
 use crate::lexemes::{Lexeme, closer, is_ident, is_number, lexeme_of, lexemes_of};
 use crate::refusal::Refusal;
 use crate::rows::first_row;
@@ -31,7 +32,7 @@ fn take_statement<'a>(
 {
     let statement = statement_behind(alloc, &scan, ws)?;
     if let Some(why) = first_row(&scan, &statement) {
-        return Err(refused(why, ws[0].place));
+        return Err(refusal_at(why, ws[0].place));
     }
     let next = with_statement(alloc, scan, statement)?;
     Ok(next)
@@ -153,11 +154,11 @@ pub fn read(alloc: Global, text: &[u8]) -> Result<Circuit, ReadFault>
 {
     let tokens = lex(alloc, text)?;
     let Some(statements) = behind_header(text, &tokens) else {
-        return Err(refused(Refusal::Header, first_place(text, &tokens)));
+        return Err(refusal_at(Refusal::Header, first_place(text, &tokens)));
     };
     let scan = scan_all(alloc, text, statements)?;
     let Some(circuit) = circuit_of(alloc, scan) else {
-        return Err(refused(Refusal::Qubits, text.len()));
+        return Err(refusal_at(Refusal::Qubits, text.len()));
     };
     Ok(circuit)
 }

@@ -2,7 +2,7 @@
 
 /// Why a text is refused; the number of a reason is its discriminant.
 #[derive(Clone, Copy)]
-pub(crate) enum Refusal {
+pub enum Refusal {
     // The text doesn't begin with the header.
     Header = 1,
     // A byte is neither skipped nor in a token.
@@ -40,7 +40,7 @@ impl Refusal {
     ghost use Rattle.qasm_reader.specs.Refusals.{number_of};
 
     /// The number of the reason, 1 to 12, 17, 18 or 20.
-    pub(crate) fn number(self) -> u8
+    pub fn number(self) -> u8
         ensures { result ≡ number_of self }
     {
         self as u8

@@ -504,7 +504,7 @@ fn applies<'a>(scan: &Scan<'a>, statement: &Statement<'_, 'a>, why: Refusal) -> 
 
 /// The first row that applies, if one does.
 #[tactic(auto, unfolding(crate::specs::Rows::row_of))]
-pub(crate) fn first_row<'a>(scan: &Scan<'a>, statement: &Statement<'_, 'a>) -> Option<Refusal>
+pub fn first_row<'a>(scan: &Scan<'a>, statement: &Statement<'_, 'a>) -> Option<Refusal>
     requires kept { AreKept scan.now.definitions }
     requires behind { IsBehind (state scan.now) statement.now }
     ensures { result ≡ row_of (state scan.now) (statement_of statement.now) }

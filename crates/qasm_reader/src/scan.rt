@@ -12,7 +12,7 @@ use tc_circuit::{Circuit, Gate};
 
 /// A register of qubits: its first qubit, and how many it has.
 #[derive(Clone, Copy)]
-pub(crate) struct Register<'a> {
+pub struct Register<'a> {
     pub name: &'a [u8],
     pub first: u8,
     pub size: u8,
@@ -22,7 +22,7 @@ pub(crate) struct Register<'a> {
 /// A definition with the size of its gate, and the gates that this stands for on the places of its names. These are kept where the
 /// gate can be applied to qubits, which takes at most three names.
 #[derive(Drop)]
-pub(crate) struct Defined<'a> {
+pub struct Defined<'a> {
     pub definition: Definition<'a>,
     pub size: Size,
     pub gates: Vec<Gate>,
@@ -30,14 +30,14 @@ pub(crate) struct Defined<'a> {
 
 /// The definitions so far in order, and the places of their names among them.
 #[derive(Drop)]
-pub(crate) struct Definitions<'a> {
+pub struct Definitions<'a> {
     pub list: Vec<Defined<'a>>,
     pub places: BTreeMap<&'a [u8], usize>,
 }
 
 /// There is a circuit once a gate was applied; its gates are those of the statements so far, and `t_count` counts their T gates.
 #[derive(Drop)]
-pub(crate) struct Scan<'a> {
+pub struct Scan<'a> {
     pub registers: Vec<Register<'a>>,
     pub names: BTreeSet<&'a [u8]>,
     pub definitions: Definitions<'a>,

@@ -18,7 +18,7 @@ use std::alloc::{AllocError, Global};
 /// qubits that the gate's arguments name, one after another, and of the gate that the form defines, whether its body is bad, and
 /// its size, where gates are counted up to one more than the most.
 #[derive(Drop)]
-pub(crate) struct Statement<'b, 'a> {
+pub struct Statement<'b, 'a> {
     pub lexemes: &'b [Lexeme<'a>],
     pub form: Option<Form<'a>>,
     pub size: Option<Size>,
@@ -66,7 +66,7 @@ fn body_in<'a>(scan: &Scan<'a>, found: &Option<Form<'a>>) -> Size
 }
 
 /// The statement of these tokens, behind what was scanned.
-pub(crate) fn statement_behind<'b, 'a>(
+pub fn statement_behind<'b, 'a>(
     alloc: Global,
     scan: &Scan<'a>,
     ws: &'b [Lexeme<'a>],

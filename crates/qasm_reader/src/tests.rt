@@ -13,7 +13,7 @@ const HEADS: [&[u8]; 4] = [
     b"OPENQASM 2.0;\nqreg q[3];\n",
 ];
 
-// The header and a register q of so many qubits, or nothing for 0, and then the lines.
+/// The header and a register q of so many qubits, or nothing for 0, and then the lines.
 fn text(alloc: Global, qubits: usize, lines: &[u8]) -> Result<Vec<u8>, AllocError> {
     let mut bytes = Vec::new(alloc);
     for (n, head) in HEADS.iter().enumerate() {
@@ -25,8 +25,8 @@ fn text(alloc: Global, qubits: usize, lines: &[u8]) -> Result<Vec<u8>, AllocErro
     Ok(bytes)
 }
 
-// The header and a register q of one qubit, and then a line so many times.
-fn repeated(alloc: Global, line: &[u8], times: usize) -> Result<Vec<u8>, AllocError> {
+/// The header and a register q of one qubit, and then a line so many times.
+fn text_of_times(alloc: Global, line: &[u8], times: usize) -> Result<Vec<u8>, AllocError> {
     let mut bytes = text(alloc, 1, b"")?;
     for _ in 0..times {
         bytes.extend_from_slice(line)?;
@@ -34,6 +34,7 @@ fn repeated(alloc: Global, line: &[u8], times: usize) -> Result<Vec<u8>, AllocEr
     Ok(bytes)
 }
 
+/// The number and the place of a text's refusal, if it is refused.
 fn refusal(alloc: Global, text: &[u8]) -> Option<(u8, usize)> {
     match read(alloc, text) {
         Err(ReadFault::Refused { number, place }) => Some((number, place)),
@@ -303,6 +304,7 @@ const CIRCUITS: [(usize, &[u8], u8, &[Gate]); 64] = [
     ),
 ];
 
+/// Each text reads as the circuit beside it.
 #[test]
 fn circuits_are_read(rt: HostRuntime) {
     for (head, lines, qubits, gates) in CIRCUITS {
@@ -421,6 +423,7 @@ const REFUSALS: [(usize, &[u8], u8, usize); 91] = [
     (0, b"OPENQASM 2.0;\n", 8, 14),
 ];
 
+/// Each text is refused with the number at the place beside it.
 #[test]
 fn texts_are_refused(rt: HostRuntime) {
     for (head, lines, number, place) in REFUSALS {
@@ -536,6 +539,7 @@ const TURNS: [(usize, &[u8], u8, &[Gate]); 40] = [
     (1, b"u1(00) q;", 1, &[]),
 ];
 
+/// Texts with gates of an angle read as the circuits beside them.
 #[test]
 fn turns_are_read(rt: HostRuntime) {
     for (head, lines, qubits, gates) in TURNS {
@@ -607,6 +611,7 @@ const REFUSED_TURNS: [(usize, &[u8], u8, usize); 50] = [
     (2, b"gate g a,b { ch a,a; }", 17, 25),
 ];
 
+/// Texts with gates of an angle are refused as told beside them.
 #[test]
 fn turns_are_refused(rt: HostRuntime) {
     for (head, lines, number, place) in REFUSED_TURNS {
@@ -690,6 +695,7 @@ const REFUSED_DEFINITIONS: [(usize, &[u8], u8, usize); 62] = [
     (1, b"gate g a { } g q; qreg r[1];", 12, 43),
 ];
 
+/// Texts with definitions are refused as told beside them.
 #[test]
 fn definitions_are_refused(rt: HostRuntime) {
     for (head, lines, number, place) in REFUSED_DEFINITIONS {
@@ -719,10 +725,11 @@ const LONG: [(&[u8], usize, Option<(u8, usize)>); 13] = [
     (b"creg c[1];", 2, Some((12, 35))),
 ];
 
+/// Lines that come many times, up to the limits and past them.
 #[test]
 fn long_texts(rt: HostRuntime) {
     for (line, times, want) in LONG {
-        let text = repeated(rt.alloc(), line, times).expect(&rt, "memory");
+        let text = text_of_times(rt.alloc(), line, times).expect(&rt, "memory");
         assert_eq!(rt; refusal(rt.alloc(), &text), want, "at {line:?}");
         assert_eq!(rt;
             read(rt.alloc(), &text).is_ok(),
@@ -735,10 +742,11 @@ fn long_texts(rt: HostRuntime) {
 // A line behind the most statements, and the number of its refusal, whose place is 32,785.
 const LATE: [(&[u8], u8); 4] = [(b"h q;", 10), (b"foo q;", 4), (b";", 3), (b"h q", 3)];
 
+/// Behind the most statements each row but the last comes before the last.
 #[test]
 fn a_statement_too_many(rt: HostRuntime) {
     for (line, number) in LATE {
-        let mut text = repeated(rt.alloc(), b"h q[0];\n", MOST_STATEMENTS - 1).expect(
+        let mut text = text_of_times(rt.alloc(), b"h q[0];\n", MOST_STATEMENTS - 1).expect(
             &rt, "memory",
         );
         text.extend_from_slice(line).expect(&rt, "memory");
@@ -750,6 +758,7 @@ fn a_statement_too_many(rt: HostRuntime) {
     }
 }
 
+/// A text of blanks alone has no header, and a header ends with its first semicolon.
 #[test]
 fn blanks_and_semis(rt: HostRuntime) {
     let spaces = vec![in rt.alloc(); b' '; 65536].expect(&rt, "memory");
@@ -780,6 +789,7 @@ const FRONTS: [(usize, Result<usize, (u8, usize)>); 15] = [
     (80, Ok(5)),
 ];
 
+/// Each front of a text is a text, which is read or refused for its own first reason.
 #[test]
 fn fronts_of_a_text(rt: HostRuntime) {
     let whole: &[u8] =
@@ -794,6 +804,7 @@ fn fronts_of_a_text(rt: HostRuntime) {
     assert_eq!(rt; outcome(rt.alloc(), &front), Ok(5));
 }
 
+/// How many gates a text has, or its refusal.
 fn outcome(alloc: Global, text: &[u8]) -> Result<usize, (u8, usize)> {
     match read(alloc, text) {
         Ok(circuit) => Ok(circuit.gates().len()),
@@ -820,6 +831,7 @@ const HALVES: [(&[u8], Result<Option<usize>, usize>); 11] = [
     (b"OPENQASM OPENQASM OPENQASM \"", Err(27)),
 ];
 
+/// Each text has its second half at the place beside it, or none.
 #[test]
 fn halves_of_texts(rt: HostRuntime) {
     for (text, want) in HALVES {
@@ -832,8 +844,8 @@ fn halves_of_texts(rt: HostRuntime) {
     }
 }
 
-// The header, a register q of so many qubits and a gate g0 with the body; then, up to a gate of the last number, each with a body
-// that has one of the gate before it so many times.
+/// The header, a register q of so many qubits and a gate g0 with the body; then, up to a gate of the last number, each with a body
+/// that has one of the gate before it so many times.
 fn chain(alloc: Global, first: &[u8], last: usize, times: usize) -> Result<Vec<u8>, AllocError> {
     let mut text = text(alloc, 1, b"gate g0 a {")?;
     text.extend_from_slice(first)?;
@@ -874,6 +886,7 @@ const CHAINS: [(&[u8], usize, usize, &[u8], Result<usize, (u8, usize)>); 9] = [
     ),
 ];
 
+/// Definitions that stand on one another are counted and written out as told beside them.
 #[test]
 fn chains_of_definitions(rt: HostRuntime) {
     for (first, last, times, line, want) in CHAINS {
@@ -883,7 +896,7 @@ fn chains_of_definitions(rt: HostRuntime) {
     }
 }
 
-// A barrier with as many arguments as a text that a program takes can hold.
+/// A barrier with as many arguments as a text that a program takes can hold.
 #[test]
 fn long_barriers(rt: HostRuntime) {
     let head = b"OPENQASM 2.0;include \"qelib1.inc\";qreg q[3];barrier q";
@@ -895,7 +908,7 @@ fn long_barriers(rt: HostRuntime) {
     assert_eq!(rt; outcome(rt.alloc(), &text), Ok(0));
 }
 
-// The header, a register of so many qubits, a gate of 10,000 gates, and it on the register so many times.
+/// The header, a register of so many qubits, a gate of 10,000 gates, and it on the register so many times.
 #[test]
 fn as_many_gates_as_there_may_be(rt: HostRuntime) {
     let ten: &[u8] = b" h a; h a; h a; h a; h a; h a; h a; h a; h a; h a;";
@@ -909,7 +922,7 @@ fn as_many_gates_as_there_may_be(rt: HostRuntime) {
     assert_eq!(rt; outcome(rt.alloc(), &text), Err((18, place)));
 }
 
-// A gate with more names than a byte counts, whose body is its last names.
+/// A gate with more names than a byte counts, whose body is its last names.
 #[test]
 fn many_names(rt: HostRuntime) {
     let mut text = text(rt.alloc(), 1, b"gate g n0").expect(&rt, "memory");
@@ -927,8 +940,10 @@ fn many_names(rt: HostRuntime) {
     assert_eq!(rt; outcome(rt.alloc(), &text), Err((17, place)));
 }
 
+/// The laws are calls that do nothing.
 #[test]
 fn laws_are_calls(_rt: HostRuntime) {
+    // Each carries its contract alone.
     one_reading();
     read_circuits_are_small();
     statements_within_limits_are_taken();

@@ -40,6 +40,7 @@ impl Source for CleanSource {
 
     ghost faults = { λ _. 0 };
 
+    /// Gives as many of the bytes as fit.
     fn read(&mut self, buf: &mut [u8]) -> Result<usize, Failed>
         ensures bound { ReadsAtMost result buf.new }
         ensures bytes { ReadConsumes (Some self.old) (Some self.new) result buf.new }
@@ -72,6 +73,7 @@ impl Sink for CleanSink {
 
     ghost faults = { λ _. 0 };
 
+    /// Takes all the bytes.
     fn write(&mut self, buf: &[u8]) -> Result<usize, Failed>
         ensures bound { WritesAtMost result buf.now }
         ensures progress { IfOk result (λ count. 0 < length buf.now → 0 < count) }

@@ -57,6 +57,7 @@ impl Source for MemSource {
 
     ghost faults = { λ s. s.faults };
 
+    /// Gives as many bytes as a call may give, or fails where it was told to.
     fn read(&mut self, buf: &mut [u8]) -> Result<usize, Failed>
         ensures bound { ReadsAtMost result buf.new }
         ensures bytes { ReadConsumes (Some self.old.left) (Some self.new.left) result buf.new }
@@ -146,6 +147,7 @@ impl Sink for MemSink {
 
     ghost faults = { λ s. s.faults };
 
+    /// Takes as many bytes as a call may take, or fails where it was told to or is full.
     fn write(&mut self, buf: &[u8]) -> Result<usize, Failed>
         ensures bound { WritesAtMost result buf.now }
         ensures progress { IfOk result (λ count. 0 < length buf.now → 0 < count) }

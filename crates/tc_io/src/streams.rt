@@ -38,6 +38,7 @@ impl<R: Read + Drop> Source for StdSource<R> {
 
     ghost faults = { λ s. s.faults };
 
+    /// Reads from the reader, and counts its failures.
     fn read(&mut self, buf: &mut [u8]) -> Result<usize, Failed>
         ensures bound { ReadsAtMost result buf.new }
         ensures cause { HasCause self.old.faults self.new.faults result }
@@ -106,7 +107,7 @@ impl<W: Write + Drop> Sink for StdSink<W> {
     }
 }
 
-// Writes a piece and flushes what was taken of it.
+/// Writes a piece and flushes what was taken of it.
 fn write_through<W: Write>(writer: &mut W, buf: &[u8]) -> Result<usize, Failed>
     ensures bound { WritesAtMost result buf.now }
     ensures progress { IfOk result (λ count. 0 < length buf.now → 0 < count) }

@@ -3,8 +3,8 @@ use std::io::{self, ErrorKind, Read, Write};
 use std::process::Abort;
 use std::test::Fail;
 
-// A source in memory is read whole: its bytes, at most how many a call, the failing calls, the
-// limit, and what is to come of it.
+/// A source in memory is read whole: its bytes, at most how many a call, the failing calls, the
+/// limit, and what is to come of it.
 #[test]
 fn reads_whole(rt: HostRuntime) -> Result<(), Fail> {
     let rows: [(&[u8], usize, &[u64], usize, Result<&[u8], ReadAllFault>); 9] = [
@@ -30,6 +30,7 @@ fn reads_whole(rt: HostRuntime) -> Result<(), Fail> {
     Ok(())
 }
 
+/// Stops the test where a read came out otherwise than it was to.
 fn assert_same(
     rt: &impl Abort,
     read: &Result<Vec<u8>, ReadAllFault>,
@@ -42,7 +43,7 @@ fn assert_same(
     }
 }
 
-// What was read of a source stays taken: one byte more than the limit where it was too long.
+/// What was read of a source stays taken: one byte more than the limit where it was too long.
 #[test]
 fn keeps_the_rest(rt: HostRuntime) -> Result<(), Fail> {
     let bytes = Vec::from_slice(rt.alloc(), b"abcde")?;
@@ -62,8 +63,8 @@ fn keeps_the_rest(rt: HostRuntime) -> Result<(), Fail> {
     Ok(())
 }
 
-// Bytes are written whole into memory: the sink's room, at most how many bytes a call, the
-// failing calls, the bytes, the outcome, and what the sink then holds.
+/// Bytes are written whole into memory: the sink's room, at most how many bytes a call, the
+/// failing calls, the bytes, the outcome, and what the sink then holds.
 #[test]
 fn writes_whole(rt: HostRuntime) -> Result<(), Fail> {
     let rows: [(usize, usize, &[u64], &[u8], Result<(), Failed>, &[u8]); 7] = [
@@ -92,6 +93,7 @@ fn writes_whole(rt: HostRuntime) -> Result<(), Fail> {
 struct Flaky(u8);
 
 impl Flaky {
+    /// Counts a call, and fails at the second.
     fn call(&mut self) -> io::Result<()> {
         self.0 = self.0.saturating_add(1);
         if self.0 == 2 {
@@ -102,6 +104,7 @@ impl Flaky {
 }
 
 impl Read for Flaky {
+    /// Gives one `x` a call.
     fn read(&mut self, buf: &mut [u8]) -> io::Result<usize> {
         self.call()?;
         if buf.is_empty() {
@@ -113,11 +116,13 @@ impl Read for Flaky {
 }
 
 impl Write for Flaky {
+    /// Takes one byte a call.
     fn write(&mut self, buf: &[u8]) -> io::Result<usize> {
         self.call()?;
         Ok(buf.len().min(1))
     }
 
+    /// Has nothing to write out.
     fn flush(&mut self) -> io::Result<()> {
         Ok(())
     }
@@ -128,16 +133,18 @@ impl Write for Flaky {
 struct Stuck(usize);
 
 impl Write for Stuck {
+    /// Takes at most so many bytes a call.
     fn write(&mut self, buf: &[u8]) -> io::Result<usize> {
         Ok(buf.len().min(self.0))
     }
 
+    /// Fails.
     fn flush(&mut self) -> io::Result<()> {
         Err(io::Error::from(ErrorKind::TimedOut))
     }
 }
 
-// The edge to std hands on what a reader and a writer do.
+/// The edge to std hands on what a reader and a writer do.
 #[test]
 fn reaches_std(rt: HostRuntime) -> Result<(), Fail> {
     let text: &[u8] = b"abc";

@@ -1,7 +1,7 @@
 use Rattle.std.proofs.Common.{sym, subst}
 use Rattle.std.specs.Prelude.{All}
-use Rattle.qasm_angle.specs.Angles.{IsWithin}
-use Rattle.qasm_angle.proofs.Spans.{within}
+use Rattle.qasm_lex.specs.Tokens.{IsWithin}
+use Rattle.qasm_lex.proofs.Spans.{within}
 use Rattle.qasm_angle.proofs.tests.value_of.Goals as goal
 
 pub angle-requires : goal.angle-requires

@@ -1,10 +1,10 @@
 use Rattle.std.proofs.Common.{◌∙◌, sym, subst, ap, arith}
 use Rattle.std.specs.Prelude.{All}
-use Rattle.qasm_reader.specs.Lexemes.{IsWithin}
+use Rattle.qasm_lex.specs.Tokens.{IsWithin}
 use Rattle.qasm_reader.specs.View.{lexemes}
 use Rattle.qasm_reader.specs.Halves.{openings}
 use Rattle.qasm_reader.proofs.Halving.{opening_begins}
-use Rattle.qasm_reader.proofs.Outcomes.{within}
+use Rattle.qasm_lex.proofs.Spans.{within}
 use Rattle.qasm_reader.proofs.openings.halves.Goals as goal
 
 pub lexemes_of-requires : goal.lexemes_of-requires

@@ -3,13 +3,15 @@ use Rattle.std.specs.Prelude.{All, option_map}
 use Rattle.std.proofs.lemmas.Result.{err_from_is_err_and}
 use Rattle.qasm_lex.specs.declared.token.Token.{Token}
 use Rattle.qasm_reader.specs.declared.refusal.Refusal.TheVariants.{Header, Qubits}
-use Rattle.qasm_reader.specs.Lexemes.{IsWithin, statements}
+use Rattle.qasm_lex.specs.Tokens.{IsWithin}
+use Rattle.qasm_lex.proofs.Spans.{within}
+use Rattle.qasm_reader.specs.Lexemes.{statements}
 use Rattle.qasm_reader.specs.Parse.{headed_at}
 use Rattle.qasm_reader.specs.Read.{place_of, HasLexemes, HasStatements, IsHeadless, IsEmpty, IsFault}
 use Rattle.qasm_reader.specs.Run.{stated}
 use Rattle.qasm_reader.specs.View.{state}
 use Rattle.qasm_reader.proofs.Cut.{of}
-use Rattle.qasm_reader.proofs.Outcomes.{is_headed, stated_behind, lex_fault, scan_fault, within}
+use Rattle.qasm_reader.proofs.Outcomes.{is_headed, stated_behind, lex_fault, scan_fault}
 use Rattle.qasm_reader.proofs.reading.read.Goals as goal
 use Rattle.qasm_reader.proofs.reading.read.Goals.{After-behind_header, In-Some}
 
@@ -39,7 +41,7 @@ returns-in_default-clause-err c =
     let ws = of text c.deref.result.now in
     let none : headed_at ws ≡ None = sym c.behind_header.ensures.value ∙ ap (λ (o : Option _). option_map (λ b. of text b.now) o) c.in_default.is in
     let place = c.first_place.ensures ∙ ap (λ (l : List Token). place_of (length text) (of text l)) (c.deref-in_default.ensures.value ∙ sym c.deref.ensures.value) in
-    subst (IsFault text) (sym c.refused.ensures) (Header, IsHeadless ws (has h) (λ rest r. absurd (cc (is_headed ws rest r, none))) refl place, refl)
+    subst (IsFault text) (sym c.refusal_at.ensures) (Header, IsHeadless ws (has h) (λ rest r. absurd (cc (is_headed ws rest r, none))) refl place, refl)
 
 pub returns-in_err-scan-clause-err : goal.returns-in_err-scan-clause-err
 returns-in_err-scan-clause-err c =
@@ -50,7 +52,7 @@ pub returns-in_default-circuit_of-clause-err : goal.returns-in_default-circuit_o
 returns-in_default-circuit_of-clause-err c =
     let text = c.args.text.now in
     let h = are (goal.at.returns-in_default-circuit_of-clause-err c).In-Some in
-    subst (IsFault text) (sym c.refused-in_default-circuit_of.ensures) (Qubits, IsEmpty _ h (state c.in_ok-scan.scan) c.in_ok-scan.ensures.ok c.in_default-circuit_of.ensures.none refl refl, refl)
+    subst (IsFault text) (sym c.refusal_at-in_default-circuit_of.ensures) (Qubits, IsEmpty _ h (state c.in_ok-scan.scan) c.in_ok-scan.ensures.ok c.in_default-circuit_of.ensures.none refl refl, refl)
 
 pub returns-clause-ok : goal.returns-clause-ok
 returns-clause-ok c =
