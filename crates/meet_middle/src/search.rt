@@ -54,6 +54,7 @@ impl<'a, const N: u8> Test<Probe<N>> for Fronts<'a, N> {
 
     ghost truth = { λ t p. front_meets N (letters_in t.level.now) t.odd (scaled t.target.now) p };
 
+    /// Whether the front of a position meets the level.
     fn answer(&self, local: &mut Probe<N>, position: u64) -> bool {
         local
             .look(self.level, self.half, self.odd, position)

@@ -76,6 +76,7 @@ fn least<R: Threads + Sync + Abort>(
     }
 }
 
+/// A least word of letters that commute has them in order, whatever the number of workers.
 #[test]
 fn commuting_letters_in_order(rt: HostRuntime) -> Result<(), Fail> {
     use Gate::{Cx, T};
@@ -89,6 +90,7 @@ fn commuting_letters_in_order(rt: HostRuntime) -> Result<(), Fail> {
     Ok(())
 }
 
+/// A word of three letters, and that there is none of two.
 #[test]
 fn three_letters_and_no_fewer(rt: HostRuntime) -> Result<(), Fail> {
     use Gate::{H, T};
@@ -102,6 +104,7 @@ fn three_letters_and_no_fewer(rt: HostRuntime) -> Result<(), Fail> {
     Ok(())
 }
 
+/// The coset of the identity has the empty word.
 #[test]
 fn the_identity_has_no_letters(rt: HostRuntime) -> Result<(), Fail> {
     use Gate::H;

@@ -44,7 +44,7 @@ fn rests_of(alloc: Global, target: &Narrow) -> Result<Vec<Remainder>, AllocError
 }
 
 /// The letters that two words begin with alike.
-fn shared(v: Word, w: Word) -> Word
+fn common_prefix(v: Word, w: Word) -> Word
     requires { v.qubits ≡ w.qubits }
     ensures qubits { result.qubits ≡ v.qubits }
     ensures of_first { result.letters ≡ take (length result.letters) v.letters }
@@ -168,7 +168,7 @@ impl Trail {
         ensures qubits { self.new.word.qubits ≡ self.old.word.qubits }
         ensures letters { self.new.word.letters ≡ take (length self.new.word.letters) word.letters }
     {
-        self.word = shared(self.word, word);
+        self.word = common_prefix(self.word, word);
     }
 
     /// Takes a word off in place of the one before, unless the least exponent behind a first part of it passes the number of

@@ -3,6 +3,7 @@ ghost use Rattle.std.specs.Prelude.{◌≡◌};
 use super::words::{columns_of, word};
 use std::test::Fail;
 
+/// Columns of words on one qubit, without their zeros.
 #[test]
 fn columns_have_these_numbers(rt: HostRuntime) -> Result<(), Fail> {
     // A word on one qubit, a column of its channel, and the rows of its numbers and the numbers, first of the whole parts and then

@@ -53,6 +53,7 @@ fn weights_before_x(
     Ok(before)
 }
 
+/// Two letters on one qubit, and what they do to each row.
 #[test]
 fn letters_turn_rows(rt: HostRuntime) -> Result<(), Fail> {
     let turns = Turns::new(rt.alloc(), 1)?;
@@ -65,6 +66,7 @@ fn letters_turn_rows(rt: HostRuntime) -> Result<(), Fail> {
     Ok(())
 }
 
+/// The blocks of a span on two qubits.
 #[test]
 fn blocks_have_these_rows(rt: HostRuntime) -> Result<(), Fail> {
     let mut blocks = Blocks::new(rt.alloc(), 2)?;
@@ -80,6 +82,7 @@ fn blocks_have_these_rows(rt: HostRuntime) -> Result<(), Fail> {
     Ok(())
 }
 
+/// The weights of the fold and of the digits.
 #[test]
 fn rows_have_these_weights(rt: HostRuntime) -> Result<(), Fail> {
     // The powers of 1000003 from the seventh on, modulo 2^64.
@@ -121,6 +124,7 @@ fn rows_have_these_weights(rt: HostRuntime) -> Result<(), Fail> {
     Ok(())
 }
 
+/// The weights of the fold before a letter.
 #[test]
 fn letters_change_weights(rt: HostRuntime) -> Result<(), Fail> {
     let turns = Turns::new(rt.alloc(), 1)?;

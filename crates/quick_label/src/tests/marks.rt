@@ -22,6 +22,7 @@ fn mark_before(alloc: Global, n: u8, codes: &[u8], code: u8) -> Result<Mark, Fai
     Ok(suffix.mark_with(letter(n, code)?, &mut label))
 }
 
+/// Marks that were made outside this program.
 #[test]
 fn letters_before_words_have_these_marks(rt: HostRuntime) -> Result<(), Fail> {
     // Qubits, a word, the letter before it, exponent and tag, by complex matrices and the plain fold outside this program.
@@ -132,6 +133,7 @@ fn look_before_words(alloc: Global, n: u8, words: &[[u8; 8]]) -> Result<Seen, Fa
     Ok(seen)
 }
 
+/// Before short words on two qubits the quick way is taken, and its marks are those of labels.
 #[test]
 fn letters_before_short_words_have_marks_of_labels(rt: HostRuntime) -> Result<(), Fail> {
     // All words of up to two letters on two qubits.
@@ -167,6 +169,7 @@ fn short_codes(random: u64) -> [u8; 8] {
     [first, second, third, 0, 0, 0, 0, 0]
 }
 
+/// Before words on three qubits the quick way is taken, and its marks are those of labels.
 #[test]
 fn letters_before_words_on_three_qubits_have_marks_of_labels(rt: HostRuntime) -> Result<(), Fail> {
     let mut words = [[0u8; 8]; 100];
@@ -199,6 +202,7 @@ fn long_codes(random: u64) -> [u8; 8] {
     codes
 }
 
+/// Before long words on one qubit both ways are taken, and the marks are those of labels.
 #[test]
 fn letters_before_long_words_have_marks_of_labels(rt: HostRuntime) -> Result<(), Fail> {
     let mut words = [[0u8; 8]; 200];

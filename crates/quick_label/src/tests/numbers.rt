@@ -1,6 +1,7 @@
 use crate::numbers::{lead_of, number_of};
 use std::test::Fail;
 
+/// Numbers from their halves.
 #[test]
 fn halves_make_numbers(rt: HostRuntime) -> Result<(), Fail> {
     assert_eq!(rt; number_of(1, 2, false), 0x1_0000_0000_0000_0002);
@@ -18,6 +19,7 @@ fn halves_make_numbers(rt: HostRuntime) -> Result<(), Fail> {
     Ok(())
 }
 
+/// Lead rows by numbers of one and more digits.
 #[test]
 fn numbers_tell_lead_rows(rt: HostRuntime) -> Result<(), Fail> {
     let rows = [9, 6, 5, 3];

@@ -16,6 +16,7 @@ fn commuting_with(p: &Pauli) -> Result<[bool; 16], &'static str>
     Ok(commuting)
 }
 
+/// How often letters before words divide.
 #[test]
 fn letters_divide_so_often(rt: HostRuntime) -> Result<(), Fail> {
     // A word on two qubits, the letter before it, and how often the product of its rotation and the word's channel was divided

@@ -5,6 +5,7 @@ use crate::sums::weigh_columns;
 use crate::weights::{BASE, Weights};
 use std::test::Fail;
 
+/// The sums of the columns of a rotation.
 #[test]
 fn columns_have_these_sums(rt: HostRuntime) -> Result<(), Fail> {
     // The columns of R(Z) are √2 in row 0, 1 and 1 in rows 1 and 2, −1 and 1 there, and √2 in row 3. The weights of the fold are

@@ -2,7 +2,7 @@ use Rattle.std.proofs.Common.{◌≡◌, ◌++◌, ◌∷◌, [], ℕ, List, Som
 use Rattle.coset_label.specs.Words.{RotationWord}
 use Rattle.meet_middle.proofs.Numbers.{same_codes}
 use Rattle.meet_middle.proofs.Trailing.{take_letter}
-use Rattle.meet_middle.proofs.trail.shared.Goals as goal
+use Rattle.meet_middle.proofs.trail.common_prefix.Goals as goal
 
 pub loop-i-preserved : goal.loop-i-preserved
 loop-i-preserved c =

@@ -1,5 +1,5 @@
 use Rattle.std.proofs.Common.{◌≡◌, length, take}
-use Rattle.meet_middle.proofs.trail.shared.Given as goal
+use Rattle.meet_middle.proofs.trail.common_prefix.Given as goal
 
 abbrev pub invariant-loop-i : goal.invariant-loop-i
 invariant-loop-i l = record {
