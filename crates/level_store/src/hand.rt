@@ -12,10 +12,10 @@ use std::alloc::{AllocError, Global};
 /// for a candidate's label, where it has to be made, and for the channel of a word which a candidate meets.
 #[derive(Drop)]
 pub struct Hand {
-    pub(crate) seat: TableSeat,
-    pub(crate) label: Scratch,
-    pub(crate) room: Narrow,
-    pub(crate) suffix: Suffix,
+    pub seat: TableSeat,
+    pub label: Scratch,
+    pub room: Narrow,
+    pub suffix: Suffix,
 }
 
 impl Hand {

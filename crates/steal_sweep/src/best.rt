@@ -24,6 +24,7 @@ pub struct BestSeat {
 impl BestSeat {
     ghost use Rattle.steal_sweep.specs.Seats.{seat_table, known_by};
 
+    /// The seat at a best word that a seat at its table is.
     fn of(seat: Seat<(), Known>) -> BestSeat
         requires bare { seat.me.1 ≡ [] }
         requires live { 0 < seat.me.0.parts }

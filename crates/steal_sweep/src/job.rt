@@ -23,7 +23,7 @@ pub trait Job<L> {
 }
 
 /// Does `count` positions from `first` on.
-pub(crate) fn do_positions<L, J: Job<L>>(job: &J, local: &mut L, first: u64, count: u32)
+pub fn do_positions<L, J: Job<L>>(job: &J, local: &mut L, first: u64, count: u32)
     requires room { first + count < 2 ^ 64 }
     requires own { (p : ℕ) → first ≤ p → p < first + count → J.own job.now p }
     requires stands { (done : List ℕ) × J.stands job.now local.old done }

@@ -6,12 +6,12 @@ mod rows;
 mod tables;
 
 use crate::OpenWay;
-use gates::{Delays, Meeting, Turns, mixed};
+use gates::{Delays, Meeting, Turns, mix};
 use marks::mark;
 use rows::{first_in_rows, reads_of_one};
 use std::alloc::{AllocError, Global};
 use std::test::Fail;
-use tables::{asked, asked_in_turn, counted, search};
+use tables::{calls_in_turn, count_calls, search, search_and_count};
 use work_shares::Share;
 
 /// Truth values of the positions below `total`: true at the hits.
@@ -27,13 +27,14 @@ fn table_of(alloc: Global, total: u64, hits: &[u64]) -> Result<Vec<bool>, AllocE
 fn table_by(alloc: Global, seed: u64) -> Result<Vec<bool>, AllocError>
     ensures { IfOk result (λ v. length v.items < 1200) }
 {
-    let total = mixed(seed, 0) % 1_200;
+    let total = mix(seed, 0) % 1_200;
     let rare = if seed % 10 == 0 { u64::MAX } else { 300 };
     (0..total)
-        .map(|position| mixed(seed, position + 1) % rare == 0)
+        .map(|position| mix(seed, position + 1) % rare == 0)
         .collect(alloc)
 }
 
+/// The least of the hits of a table is found, and none where there is none.
 #[test]
 fn the_least_of_three_hits(rt: HostRuntime) -> Result<(), Fail> {
     let truths = table_of(rt.alloc(), 1000, &[700, 701, 130])?;
@@ -43,26 +44,29 @@ fn the_least_of_three_hits(rt: HostRuntime) -> Result<(), Fail> {
     Ok(())
 }
 
+/// One worker asks up to the least hit and no further.
 #[test]
 fn no_test_beyond_the_least_hit(rt: HostRuntime) -> Result<(), Fail> {
     let truths = table_of(rt.alloc(), 1000, &[700, 130])?;
     // The one worker asks at 0 to 130, and then the word is 130.
-    assert_eq!(rt; asked(&rt, rt.alloc(), &truths, 1, &OpenWay)?, 131);
+    assert_eq!(rt; count_calls(&rt, rt.alloc(), &truths, 1, &OpenWay)?, 131);
     assert_eq!(rt;
-        counted(&rt, rt.alloc(), &truths, 1, &OpenWay)?,
+        search_and_count(&rt, rt.alloc(), &truths, 1, &OpenWay)?,
         (Some(130), 131)
     );
     Ok(())
 }
 
+/// A seeker that comes later skips what lies behind the hit of another.
 #[test]
 fn a_hit_of_another_seat_is_seen(rt: HostRuntime) -> Result<(), Fail> {
     let truths = table_of(rt.alloc(), 8, &[3])?;
     // The second seeker asks at 0. The first finds the hit at 3, and the second, which loads the word again, skips 5.
-    assert_eq!(rt; asked_in_turn(rt.alloc(), &truths)?, (1, 1));
+    assert_eq!(rt; calls_in_turn(rt.alloc(), &truths)?, (1, 1));
     Ok(())
 }
 
+/// A local that keeps the row it has read reads each row once, and the hit is the same.
 #[test]
 fn a_local_keeps_what_it_has_read(rt: HostRuntime) -> Result<(), Fail> {
     let numbers = [9, 8, 9, 5, 0, 8, 9, 8, 8, 7];
@@ -77,6 +81,7 @@ fn a_local_keeps_what_it_has_read(rt: HostRuntime) -> Result<(), Fail> {
     Ok(())
 }
 
+/// The least hit is that of a plain loop, for each number of workers and each delay.
 #[test]
 fn the_least_hit_whatever_the_schedule(rt: HostRuntime) -> Result<(), Fail> {
     for seed in 0..200u64 {
@@ -101,12 +106,13 @@ fn marks_at(shares: &[Share<Vec<u64>>], position: u64) -> u64 {
     })
 }
 
+/// A job is done once at each position, and all shares have ended.
 #[test]
 fn each_position_is_done_once(rt: HostRuntime) -> Result<(), Fail> {
     for seed in 0..1_000u64 {
-        let total = mixed(seed, 1) % 400;
-        let block = (mixed(seed, 2) % 64) as u32 + 1;
-        let workers = (mixed(seed, 3) % 8) as u32 + 1;
+        let total = mix(seed, 1) % 400;
+        let block = (mix(seed, 2) % 64) as u32 + 1;
+        let workers = (mix(seed, 3) % 8) as u32 + 1;
         let shares = mark(&rt, rt.alloc(), total, block, workers, &Delays::new(seed))?;
         let once = (0..total).all(|position| marks_at(&shares, position) == 1);
         assert!(rt;
@@ -117,6 +123,7 @@ fn each_position_is_done_once(rt: HostRuntime) -> Result<(), Fail> {
     Ok(())
 }
 
+/// Two workers of a job are in the turnstile at once.
 #[test]
 fn two_workers_meet(rt: HostRuntime) -> Result<(), Fail> {
     let gate = Meeting::new();
@@ -126,6 +133,7 @@ fn two_workers_meet(rt: HostRuntime) -> Result<(), Fail> {
     Ok(())
 }
 
+/// Two workers of a search are in the turnstile at once.
 #[test]
 fn two_searchers_meet(rt: HostRuntime) -> Result<(), Fail> {
     let gate = Meeting::new();
@@ -135,6 +143,7 @@ fn two_searchers_meet(rt: HostRuntime) -> Result<(), Fail> {
     Ok(())
 }
 
+/// One worker passes the turnstile before each of its blocks, in turn.
 #[test]
 fn a_worker_passes_before_each_block(rt: HostRuntime) -> Result<(), Fail> {
     let gate = Turns::new();

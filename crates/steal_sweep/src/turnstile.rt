@@ -12,6 +12,7 @@ pub trait Turnstile {
 pub struct OpenWay;
 
 impl Turnstile for OpenWay {
+    /// Does nothing.
     fn pass(&self, _worker: u32, _turn: u64) {}
 }
 
@@ -28,6 +29,7 @@ pub struct Delay {
 }
 
 impl Turnstile for Delay {
+    /// Counts where it is the worker and the turn that is held up.
     fn pass(&self, worker: u32, turn: u64) {
         if worker == self.worker && turn == self.turn {
             for _ in 0..self.spins {

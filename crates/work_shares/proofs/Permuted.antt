@@ -1,4 +1,4 @@
--- Lists by their sums: one whose sums are as great as another's has its elements, and one with the same sums is a permutation of it.
+-- Lemmas for the crates above: lists by how often each element stands in them, or by their sums: which are parts of one another, and which are permutations.
 use Rattle.std.proofs.Common.{◌≡◌, ℕ, ◌==◌, ◌&&◌, ◌<◌, ◌≤◌, Bool, true, false, cond, List, [], ◌∷◌, ◌++◌, IsPermutation, refl, sym, ap, ◌∙◌, subst, arith}
 use Rattle.std.specs.List.{sum_by}
 use Rattle.std.proofs.lemmas.List.{append-nil}
@@ -32,35 +32,42 @@ module _ {X : Type 0} (same : X → X → Bool) (tells : Tells same) where
   found x [] some = absurd (omega arith)
   found x (y ∷ ys) some = found_first x y ys (same x y) refl some (found x ys)
 
-  -- where no sum is greater, the list is a part of the other
-  pub part_of : (xs ys : List X) → ((weight : X → ℕ) → sum_by weight xs ≤ sum_by weight ys) → (left : List X) × IsPermutation ys (xs ++ left)
-  part_of [] ys le = (ys, IsPermutation-refl ys)
-  part_of (x ∷ xs) ys le =
+  -- where each element stands no more often than in another list, the list is a part of that
+  pub part_by_counts : (xs ys : List X) → ((x : X) → sum_by (is_it x) xs ≤ sum_by (is_it x) ys) → (left : List X) × IsPermutation ys (xs ++ left)
+  part_by_counts [] ys le = (ys, IsPermutation-refl ys)
+  part_by_counts (x ∷ xs) ys le =
       let own : is_it x x ≡ 1 = ap (λ b. cond b 1 0) (tells.itself x) in
-      let f = found x ys (let some = le (is_it x) in omega (arith, sum_by-cons (is_it x) x xs)) in
+      let f = found x ys (let some = le x in omega (arith, sum_by-cons (is_it x) x xs)) in
       let before = f.0 in
       let after = f.1.0 in
       let is : ys ≡ before ++ x ∷ after = f.1.1 in
-      let less : (weight : X → ℕ) → sum_by weight xs ≤ sum_by weight (before ++ after) = λ weight.
-      omega (arith, le weight, sum_by-cons weight x xs, ap (sum_by weight) is, sum_by-append weight before (x ∷ after), sum_by-cons weight x after, sum_by-append weight before after) in
-      let rest = part_of xs (before ++ after) less in (
+      let less : (z : X) → sum_by (is_it z) xs ≤ sum_by (is_it z) (before ++ after) = λ z.
+      omega (arith, le z, sum_by-cons (is_it z) x xs, ap (sum_by (is_it z)) is, sum_by-append (is_it z) before (x ∷ after), sum_by-cons (is_it z) x after, sum_by-append (is_it z) before after) in
+      let rest = part_by_counts xs (before ++ after) less in (
         rest.0,
         subst (λ (l : List X). IsPermutation l (x ∷ xs ++ rest.0)) (sym is)
             (IsPermutation-trans (before ++ x ∷ after) (x ∷ (before ++ after)) (x ∷ xs ++ rest.0) (IsPermutation-middle before x after)
             (IsPermutation-cons x (before ++ after) (xs ++ rest.0) rest.1)),
       )
 
-  -- where all sums are the same, nothing is left
-  pub permuted : (xs ys : List X) → ((weight : X → ℕ) → sum_by weight xs ≡ sum_by weight ys) → IsPermutation xs ys
-  permuted xs ys equal =
-      let part = part_of ys xs (λ weight. omega (arith, equal weight)) in
-      let one : X → ℕ = λ _. 1 in
-      let none : part.0 ≡ [] = empty part.0 (omega (arith, equal one, sum_by-IsPermutation one xs (ys ++ part.0) part.1, sum_by-append one ys part.0)) in
+  -- where each stands as often, nothing is left
+  pub permuted_by_counts : (xs ys : List X) → ((x : X) → sum_by (is_it x) xs ≡ sum_by (is_it x) ys) → IsPermutation xs ys
+  permuted_by_counts xs ys equal =
+      let part = part_by_counts ys xs (λ x. omega (arith, equal x)) in
+      let none : part.0 ≡ [] = empty part.0 (λ x. omega (arith, equal x, sum_by-IsPermutation (is_it x) xs (ys ++ part.0) part.1, sum_by-append (is_it x) ys part.0)) in
       subst (IsPermutation xs) (ap (λ l. ys ++ l) none ∙ append-nil ys) part.1
     where
-      empty : (zs : List X) → sum_by (λ _. 1) zs ≡ 0 → zs ≡ []
+      empty : (zs : List X) → ((x : X) → sum_by (is_it x) zs ≡ 0) → zs ≡ []
       empty [] e = refl
-      empty (z ∷ zs) e = absurd (let one : X → ℕ = λ _. 1 in omega (arith, sum_by-cons one z zs))
+      empty (z ∷ zs) e = let own : is_it z z ≡ 1 = ap (λ b. cond b 1 0) (tells.itself z) in absurd (omega (arith, own, e z, sum_by-cons (is_it z) z zs))
+
+  -- the same by sums: where no sum is greater
+  pub part_of : (xs ys : List X) → ((weight : X → ℕ) → sum_by weight xs ≤ sum_by weight ys) → (left : List X) × IsPermutation ys (xs ++ left)
+  part_of xs ys le = part_by_counts xs ys (λ x. le (is_it x))
+
+  -- and where all sums are the same
+  pub permuted : (xs ys : List X) → ((weight : X → ℕ) → sum_by weight xs ≡ sum_by weight ys) → IsPermutation xs ys
+  permuted xs ys equal = permuted_by_counts xs ys (λ x. equal (is_it x))
 
 -- numbers are told apart by their test
 pub tells_numbers : Tells (λ (a b : ℕ). a == b)

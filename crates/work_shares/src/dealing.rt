@@ -9,7 +9,7 @@ ghost use Rattle.work_shares.specs.Shares.{place_of, AreDeal, IsFresh, load_of};
 
 use crate::block::Cut;
 use crate::deque::Owner;
-use crate::filling::filled_all;
+use crate::filling::new_deques;
 use crate::lending::lend_all;
 use crate::parts::Parts;
 use crate::seat::Seat;
@@ -17,7 +17,7 @@ use crate::share::Share;
 use crate::theft::Theft;
 use std::alloc::{AllocError, Global};
 
-// Room to take a deal apart, at the first worker.
+/// Room to take a deal apart, at the first worker.
 fn room_at<L>(alloc: Global, workers: u32, worker: u32) -> Result<Parts<L>, AllocError>
     ensures empty { IfOk result IsEmpty }
     ensures room { IfOk result (λ parts. worker ≡ 0 → HasRoom workers parts) }
@@ -29,7 +29,7 @@ fn room_at<L>(alloc: Global, workers: u32, worker: u32) -> Result<Parts<L>, Allo
     }
 }
 
-// A worker's share, with room to note every block.
+/// A worker's share, with room to note every block.
 fn share_at<L: Drop>(
     alloc: Global,
     cut: Cut,
@@ -64,7 +64,7 @@ fn share_at<L: Drop>(
     })
 }
 
-// The shares of all workers, in order.
+/// The shares of all workers, in order.
 fn shares_of<L: Drop>(
     alloc: Global,
     cut: Cut,
@@ -112,7 +112,7 @@ pub fn deal<L: Drop>(
     ensures loads { IfOk result (λ shares. map load_of shares.items ≡ loads.items) }
 {
     let cut = Cut { total, size: block };
-    let mut owners = filled_all(alloc, cut.count(), loads.len() as u32)?;
+    let mut owners = new_deques(alloc, cut.count(), loads.len() as u32)?;
     let thefts = lend_all(alloc, &mut owners)?;
     shares_of(alloc, cut, owners, thefts, loads)
 }

@@ -11,7 +11,7 @@ use crate::deque::{Owner, empty, push};
 use crate::entry::Entry;
 use std::alloc::{AllocError, Global};
 
-// The numbers of a worker's blocks: its own number, and on in steps of the workers.
+/// The numbers of a worker's blocks: its own number, and on in steps of the workers.
 fn push_numbers(owner: &mut Owner, count: u32, workers: u32, worker: u32)
     requires few { count ≤ 2 ^ 24 }
     requires worker { (worker < workers) × (workers ≤ 8) }
@@ -28,7 +28,7 @@ fn push_numbers(owner: &mut Owner, count: u32, workers: u32, worker: u32)
     }
 }
 
-// As many end marks as there are workers.
+/// As many end marks as there are workers.
 fn push_ends(owner: &mut Owner, workers: u32)
     requires parts { (worker_view owner.old).parts ≡ all_parts }
     requires room { worker_index owner.old + workers ≤ worker_capacity owner.old }
@@ -41,7 +41,7 @@ fn push_ends(owner: &mut Owner, workers: u32)
 }
 
 /// The deque of a worker: the numbers of its blocks, and behind them the end marks.
-pub fn filled(alloc: Global, count: u32, workers: u32, worker: u32) -> Result<Owner, AllocError>
+pub fn new_deque(alloc: Global, count: u32, workers: u32, worker: u32) -> Result<Owner, AllocError>
     requires few { count ≤ 2 ^ 24 }
     requires worker { (worker < workers) × (workers ≤ 8) }
     ensures { IfOk result (λ owner. IsFilled count workers worker owner) }
@@ -53,14 +53,14 @@ pub fn filled(alloc: Global, count: u32, workers: u32, worker: u32) -> Result<Ow
 }
 
 /// The deques of all workers, in order.
-pub fn filled_all(alloc: Global, count: u32, workers: u32) -> Result<Vec<Owner>, AllocError>
+pub fn new_deques(alloc: Global, count: u32, workers: u32) -> Result<Vec<Owner>, AllocError>
     requires few { count ≤ 2 ^ 24 }
     requires workers { workers ≤ 8 }
     ensures { IfOk result (λ owners. AreFilled count workers workers owners.items) }
 {
     let mut owners = Vec::with_capacity(alloc, workers as usize)?;
     for worker in 0..workers {
-        let owner = filled(alloc, count, workers, worker)?;
+        let owner = new_deque(alloc, count, workers, worker)?;
         owners.push_reserved(owner);
     }
     Ok(owners)

@@ -9,7 +9,7 @@ use crate::deque::{Owner, lend};
 use crate::theft::Theft;
 use std::alloc::{AllocError, Global};
 
-// A way into a deque, with one part of its owner's.
+/// A way into a deque, with one part of its owner's.
 fn lend_one(owner: &mut Owner) -> Result<Theft, AllocError>
     requires parts { 1 < parts_of owner.old }
     requires untaken { IsUntaken owner.old }
@@ -23,7 +23,7 @@ fn lend_one(owner: &mut Owner) -> Result<Theft, AllocError>
     })
 }
 
-// A worker's ways into the deques of the workers after it, counted round.
+/// A worker's ways into the deques of the workers after it, counted round.
 fn lend_to(alloc: Global, owners: &mut Vec<Owner>, worker: usize) -> Result<Vec<Theft>, AllocError>
     requires few { (worker < vec_len owners.old) × (vec_len owners.old ≤ 8) }
     requires untaken { All IsUntaken owners.old.items }

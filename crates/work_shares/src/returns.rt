@@ -9,7 +9,7 @@ ghost use Rattle.work_shares.specs.Owners.{deque_of, parts_of, LeadOn, LeadAllOn
 use crate::deque::{Owner, learn, take_back};
 use crate::theft::Theft;
 
-// What a worker's thefts took goes back to the owners.
+/// What a worker's thefts took goes back to the owners.
 fn take_back_from(owners: &mut Vec<Owner>, worker: usize, mut thefts: Vec<Theft>)
     requires few { vec_len owners.old ≤ 8 }
     requires worker { worker < vec_len owners.old }

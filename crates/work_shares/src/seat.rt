@@ -30,7 +30,7 @@ pub struct Seat {
     pub ended: bool,
 }
 
-// The number of a block of another's, if one round of tries gets it.
+/// The number of a block of another's, if one round of tries gets it.
 fn steal_round(thefts: &mut Vec<Theft>) -> Option<u32>
     ensures { Steals result thefts.old.items thefts.new.items }
 {
@@ -46,7 +46,7 @@ fn steal_round(thefts: &mut Vec<Theft>) -> Option<u32>
 impl Seat {
     ghost use Rattle.work_shares.specs.Seats.{IsSeated, IsStanding, Takes, TakesOwn, HasOwnMark, place_of_seat, seat_left};
 
-    // The number of the next block of its own deque, if there is one.
+    /// The number of the next block of its own deque, if there is one.
     fn take_own(&mut self) -> Option<u32>
         requires { IsStanding self.old }
         ensures { TakesOwn result self.old self.new }
@@ -64,7 +64,7 @@ impl Seat {
         }
     }
 
-    // The number of a block of another's, if two rounds of tries get it.
+    /// The number of a block of another's, if two rounds of tries get it.
     fn steal(&mut self) -> Option<u32>
         ensures steals { Steals result self.old.thefts.items self.new.thefts.items }
         ensures rest { self.new ≡ record self.old { thefts = self.new.thefts } }
@@ -75,7 +75,7 @@ impl Seat {
         }
     }
 
-    // The number of a block, if its own deque has one or if two rounds of tries get one.
+    /// The number of a block, if its own deque has one or if two rounds of tries get one.
     fn take(&mut self) -> Option<u32>
         requires { IsStanding self.old }
         ensures { Takes result self.old self.new }

@@ -18,8 +18,8 @@ pub struct Settled<L> {
     pub(crate) loads: Vec<L>,
 }
 
-// The parts of shares, in their order. The room for them comes from the first share.
-fn parted<L>(mut shares: Vec<Share<L>>) -> Parts<L>
+/// The parts of shares, in their order. The room for them comes from the first share.
+fn take_apart<L>(mut shares: Vec<Share<L>>) -> Parts<L>
     requires some { 0 < vec_len shares }
     requires first { IfSome (slice_get shares.items 0) (λ share. (place_of share).worker ≡ 0) }
     requires room { IfSome (slice_get shares.items 0) (λ share. (place_of share).workers ≡ vec_len shares) }
@@ -62,7 +62,7 @@ pub fn settle<L>(shares: Vec<Share<L>>) -> Settled<L>
         thefts,
         notes,
         loads,
-    } = parted(shares);
+    } = take_apart(shares);
     take_back_all(&mut owners, thefts);
     learn_all(&mut owners);
     Settled { notes, loads }

@@ -54,13 +54,13 @@ fn call_at_random(shares: &mut Vec<Share<u64>>, calls: u64, numbers: &mut u64)
     ensures { map place_of shares.new.items ≡ map place_of shares.old.items }
 {
     for _ in 0..calls {
-        let i = drawn(numbers, shares.len() as u64) as usize;
+        let i = draw(numbers, shares.len() as u64) as usize;
         call(shares, i);
     }
 }
 
 /// The next of a row of numbers that looks random, below a bound.
-fn drawn(numbers: &mut u64, bound: u64) -> u64
+fn draw(numbers: &mut u64, bound: u64) -> u64
     requires { 0 < bound }
     ensures { result < bound }
 {
@@ -71,7 +71,12 @@ fn drawn(numbers: &mut u64, bound: u64) -> u64
 }
 
 /// A deal with loads of 0.
-fn dealt(alloc: Global, total: u64, block: u32, workers: u32) -> Result<Vec<Share<u64>>, AllocError>
+fn deal_zeros(
+    alloc: Global,
+    total: u64,
+    block: u32,
+    workers: u32,
+) -> Result<Vec<Share<u64>>, AllocError>
     requires block { 0 < block }
     requires workers { (0 < workers) × (workers ≤ 8) }
     requires few { total / block < 2 ^ 24 }
@@ -119,7 +124,7 @@ fn given_blocks(
 }
 
 /// Deals, has shares call at random and then each to its end, and settles.
-fn settled_alone(
+fn settle_alone(
     alloc: Global,
     total: u64,
     block: u32,
@@ -131,14 +136,14 @@ fn settled_alone(
     requires few { total / block < 2 ^ 24 }
     ensures { IfOk result (λ settled. length (blocks_of settled) ≡ workers) }
 {
-    let mut shares = dealt(alloc, total, block, workers)?;
+    let mut shares = deal_zeros(alloc, total, block, workers)?;
     call_at_random(&mut shares, total % 97, numbers);
     finish_all(&mut shares);
     Ok(settle(shares))
 }
 
 /// Deals, has each share call to its end in a thread of its own, and settles.
-fn settled_in_threads<R: Threads + Sync>(
+fn settle_in_threads<R: Threads + Sync>(
     rt: &R,
     alloc: Global,
     total: u64,
@@ -150,14 +155,15 @@ fn settled_in_threads<R: Threads + Sync>(
     requires few { total / block < 2 ^ 24 }
     ensures { IfOk result (λ settled. length (blocks_of settled) ≡ workers) }
 {
-    let mut shares = dealt(alloc, total, block, workers)?;
+    let mut shares = deal_zeros(alloc, total, block, workers)?;
     finish_in_threads(rt, &mut shares);
     Ok(settle(shares))
 }
 
+/// A worker takes the blocks of its own deque in order.
 #[test]
 fn blocks_in_the_order_of_a_deque(rt: HostRuntime) -> Result<(), Fail> {
-    let mut shares = dealt(rt.alloc(), 130, 64, 2)?;
+    let mut shares = deal_zeros(rt.alloc(), 130, 64, 2)?;
     assert_eq!(rt;
         shares[1].next(),
         Some(Block {
@@ -184,9 +190,10 @@ fn blocks_in_the_order_of_a_deque(rt: HostRuntime) -> Result<(), Fail> {
     Ok(())
 }
 
+/// A settled deal shows the blocks and the load of each worker.
 #[test]
 fn blocks_and_loads_are_shown(rt: HostRuntime) -> Result<(), Fail> {
-    let mut shares = dealt(rt.alloc(), 130, 64, 2)?;
+    let mut shares = deal_zeros(rt.alloc(), 130, 64, 2)?;
     finish_all(&mut shares);
     let settled = settle(shares);
     let own = [
@@ -206,13 +213,15 @@ fn blocks_and_loads_are_shown(rt: HostRuntime) -> Result<(), Fail> {
     assert_eq!(rt; settled.blocks(0), own.as_slice());
     assert_eq!(rt; settled.blocks(1), [].as_slice());
     assert_eq!(rt; settled.loads().as_slice(), [130, 0].as_slice());
+    // The blocks that a deal cuts are those of its positions.
     deals_cover(130, 64);
     Ok(())
 }
 
+/// A deal that is settled early shows what was given until then.
 #[test]
 fn a_deal_under_way_shows_what_was_given(rt: HostRuntime) -> Result<(), Fail> {
-    let mut shares = dealt(rt.alloc(), 130, 64, 2)?;
+    let mut shares = deal_zeros(rt.alloc(), 130, 64, 2)?;
     let second = Block {
         first: 64,
         count: 64,
@@ -225,10 +234,11 @@ fn a_deal_under_way_shows_what_was_given(rt: HostRuntime) -> Result<(), Fail> {
     Ok(())
 }
 
+/// A worker steals the block of another whose share takes none.
 #[test]
 fn stolen_once(rt: HostRuntime) -> Result<(), Fail> {
     for deal in 0..1000 {
-        let mut shares = dealt(rt.alloc(), 130, 64, 2)?;
+        let mut shares = deal_zeros(rt.alloc(), 130, 64, 2)?;
         let mut share = shares.remove(0);
         let mut given = false;
         while let Some(block) = share.next() {
@@ -239,14 +249,15 @@ fn stolen_once(rt: HostRuntime) -> Result<(), Fail> {
     Ok(())
 }
 
+/// Calls in any order give the blocks of a plain loop, each once.
 #[test]
 fn calls_in_any_order_give_each_block_once(rt: HostRuntime) -> Result<(), Fail> {
     let mut numbers = 2026;
     for deal in 0..1000 {
-        let total = drawn(&mut numbers, 5000);
-        let block = drawn(&mut numbers, 100) as u32 + 1;
-        let workers = drawn(&mut numbers, 8) as u32 + 1;
-        let settled = settled_alone(rt.alloc(), total, block, workers, &mut numbers)?;
+        let total = draw(&mut numbers, 5000);
+        let block = draw(&mut numbers, 100) as u32 + 1;
+        let workers = draw(&mut numbers, 8) as u32 + 1;
+        let settled = settle_alone(rt.alloc(), total, block, workers, &mut numbers)?;
         assert_eq!(rt;
             given_blocks(rt.alloc(), &settled, workers)?,
             plain_blocks(rt.alloc(), total, block)?,
@@ -256,10 +267,11 @@ fn calls_in_any_order_give_each_block_once(rt: HostRuntime) -> Result<(), Fail> 
     Ok(())
 }
 
+/// Threads take the blocks of a plain loop, each once.
 #[test]
 fn threads_take_each_block_once(rt: HostRuntime) -> Result<(), Fail> {
     for workers in 1..9 {
-        let settled = settled_in_threads(&rt, rt.alloc(), 20_001, 3, workers)?;
+        let settled = settle_in_threads(&rt, rt.alloc(), 20_001, 3, workers)?;
         assert_eq!(rt;
             given_blocks(rt.alloc(), &settled, workers)?,
             plain_blocks(rt.alloc(), 20_001, 3)?,

@@ -2,7 +2,7 @@ use crate::Turnstile;
 use std::sync::atomic::{AtomicU64, Ordering};
 
 /// A number that seems random, from a seed and the numbers before it (the mixing step of SplitMix64).
-pub fn mixed(seed: u64, number: u64) -> u64 {
+pub fn mix(seed: u64, number: u64) -> u64 {
     let mut z = seed.wrapping_add(number.wrapping_mul(0x9e37_79b9_7f4a_7c15));
     z = (z ^ (z >> 30)).wrapping_mul(0xbf58_476d_1ce4_e5b9);
     z = (z ^ (z >> 27)).wrapping_mul(0x94d0_49bb_1331_11eb);
@@ -17,6 +17,7 @@ pub struct Delays {
 }
 
 impl Delays {
+    /// Delays by a seed.
     pub fn new(seed: u64) -> Delays {
         Delays {
             seed,
@@ -26,8 +27,9 @@ impl Delays {
 }
 
 impl Turnstile for Delays {
+    /// Counts for a while before one pass of four.
     fn pass(&self, worker: u32, turn: u64) {
-        let drawn = mixed(self.seed, turn.wrapping_mul(8) ^ u64::from(worker));
+        let drawn = mix(self.seed, turn.wrapping_mul(8) ^ u64::from(worker));
         if drawn % 4 == 0 {
             for _ in 0..drawn % 20_000 {
                 self.spun.fetch_add(1, Ordering::SeqCst);
@@ -45,6 +47,7 @@ pub struct Meeting {
 }
 
 impl Meeting {
+    /// Nobody has come yet.
     pub fn new() -> Meeting {
         Meeting {
             first: AtomicU64::new(0),
@@ -53,10 +56,12 @@ impl Meeting {
         }
     }
 
+    /// Whether two were inside at once.
     pub fn was_seen(&self) -> bool {
         self.met.load(Ordering::SeqCst) != 0
     }
 
+    /// Comes in, and stays until the other comes or a time has passed.
     fn enter(&self, mine: &AtomicU64, other: &AtomicU64) {
         mine.store(1, Ordering::SeqCst);
         for _ in 0..200_000_000 {
@@ -70,6 +75,7 @@ impl Meeting {
 }
 
 impl Turnstile for Meeting {
+    /// Lets worker 0 meet another.
     fn pass(&self, worker: u32, _turn: u64) {
         if worker == 0 {
             self.enter(&self.first, &self.second);
@@ -87,6 +93,7 @@ pub struct Turns {
 }
 
 impl Turns {
+    /// No pass yet.
     pub fn new() -> Turns {
         Turns {
             next: AtomicU64::new(0),
@@ -105,6 +112,7 @@ impl Turns {
 }
 
 impl Turnstile for Turns {
+    /// Counts a pass, and keeps in mind one that comes astray.
     fn pass(&self, worker: u32, turn: u64) {
         if worker != 0 || turn != self.next.fetch_add(1, Ordering::SeqCst) {
             self.astray.store(1, Ordering::SeqCst);

@@ -20,13 +20,15 @@ impl Job<Vec<u64>> for Marks {
 
     ghost name = { λ job marks. [] };
 
+    /// Counts the position.
     fn turn(&self, local: &mut Vec<u64>, position: u64) {
         let at = position as usize;
         local[at] = local[at].wrapping_add(1);
     }
 }
 
-fn unmarked(alloc: Global, total: u64, workers: u32) -> Result<Vec<Vec<u64>>, AllocError>
+/// For each worker a place for each position, with no mark.
+fn blank_marks(alloc: Global, total: u64, workers: u32) -> Result<Vec<Vec<u64>>, AllocError>
     ensures count { IfOk result (λ v. vec_len v ≡ workers) }
     ensures sizes { IfOk result (λ v. All (λ marks. vec_len marks ≡ total) v.items) }
 {
@@ -49,7 +51,7 @@ pub fn mark<H: Threads + Sync, G: Turnstile + Sync>(
     requires some { 1 ≤ workers }
     requires few { workers ≤ 8 }
 {
-    let mut shares = deal(alloc, total, block, unmarked(alloc, total, workers)?)?;
+    let mut shares = deal(alloc, total, block, blank_marks(alloc, total, workers)?)?;
     for_each(th, &mut shares, &Marks { total }, gate);
     Ok(shares)
 }

@@ -28,6 +28,7 @@ pub struct Rows<'a> {
 }
 
 impl<'a> Rows<'a> {
+    /// Rows with these numbers.
     fn new(numbers: &'a [u64]) -> Rows<'a>
         ensures { result.numbers.now ≡ numbers.now }
     {
@@ -47,6 +48,7 @@ impl<'a> Test<Kept> for Rows<'a> {
 
     ghost truth = { λ t p. slice_index_or t.numbers.now (p / 8) 0 == p % 8 };
 
+    /// Whether the position is the place that its row's number names. A row is read where it isn't the last one read.
     fn answer(&self, local: &mut Kept, position: u64) -> bool {
         let row = position / 8;
         if local.row != row {
@@ -76,7 +78,7 @@ fn seekers(alloc: Global, seats: Vec<BestSeat>, first: u64) -> Result<Vec<Seeker
 }
 
 /// A best word, and a share in blocks of 64 for each of its seats.
-fn dealt(
+fn deal_seekers(
     alloc: Global,
     numbers: &[u64],
     workers: u32,
@@ -108,7 +110,7 @@ pub fn first_in_rows<H: Threads + Sync>(
     requires some { 1 ≤ workers }
     requires few { workers ≤ 8 }
 {
-    let (best, shares) = dealt(alloc, numbers, workers)?;
+    let (best, shares) = deal_seekers(alloc, numbers, workers)?;
     let sweep = Sweep::new(numbers.len() as u64 * 8, Rows::new(numbers));
     Ok(least_hit(th, &sweep, shares, best, &OpenWay))
 }
@@ -122,7 +124,7 @@ pub fn reads_of_one<H: Threads + Sync>(
     requires rows { 0 < length numbers.now }
     requires short { length numbers.now ≤ 2 ^ 20 }
 {
-    let (best, mut shares) = dealt(alloc, numbers, 1)?;
+    let (best, mut shares) = deal_seekers(alloc, numbers, 1)?;
     let sweep = Sweep::new(numbers.len() as u64 * 8, Rows::new(numbers));
     let search = Search {
         sweep: &sweep,

@@ -28,6 +28,7 @@ pub struct Table<'a> {
 }
 
 impl<'a> Table<'a> {
+    /// A table of these truth values, of which none was asked.
     fn new(truths: &'a [bool]) -> Table<'a>
         ensures { result.truths.now ≡ truths.now }
     {
@@ -47,6 +48,7 @@ impl<'a> Test<Calls> for Table<'a> {
 
     ghost truth = { λ t p. slice_index_or t.truths.now p false };
 
+    /// The truth value at the position, counted by the local and by the table.
     fn answer(&self, local: &mut Calls, position: u64) -> bool {
         local.0 = local.0.wrapping_add(1);
         self.asked.fetch_add(1, Ordering::SeqCst);
@@ -54,6 +56,7 @@ impl<'a> Test<Calls> for Table<'a> {
     }
 }
 
+/// A seeker for each seat, which has asked nothing.
 fn seekers(alloc: Global, seats: Vec<BestSeat>) -> Result<Vec<Seeker<Calls>>, AllocError>
     ensures { IfOk result (λ v. v.items ≡ map (λ seat. record { seat = seat; local = record { 0 = 0 } }) seats.items) }
 {
@@ -67,7 +70,7 @@ fn seekers(alloc: Global, seats: Vec<BestSeat>) -> Result<Vec<Seeker<Calls>>, Al
 }
 
 /// A best word, and a share in blocks of 64 for each of its seats.
-fn dealt(
+fn deal_seekers(
     alloc: Global,
     total: u64,
     workers: u32,
@@ -85,7 +88,7 @@ fn dealt(
 }
 
 /// The least hit of a table, and how often it was asked.
-pub fn counted<H: Threads + Sync, G: Turnstile + Sync>(
+pub fn search_and_count<H: Threads + Sync, G: Turnstile + Sync>(
     th: &H,
     alloc: Global,
     truths: &[bool],
@@ -97,7 +100,7 @@ pub fn counted<H: Threads + Sync, G: Turnstile + Sync>(
     requires few { workers ≤ 8 }
 {
     let total = truths.len() as u64;
-    let (best, shares) = dealt(alloc, total, workers)?;
+    let (best, shares) = deal_seekers(alloc, total, workers)?;
     let sweep = Sweep::new(total, Table::new(truths));
     let hit = least_hit(th, &sweep, shares, best, gate);
     Ok((hit, sweep.test.asked.load(Ordering::SeqCst)))
@@ -115,12 +118,12 @@ pub fn search<H: Threads + Sync, G: Turnstile + Sync>(
     requires some { 1 ≤ workers }
     requires few { workers ≤ 8 }
 {
-    let (hit, _asked) = counted(th, alloc, truths, workers, gate)?;
+    let (hit, _asked) = search_and_count(th, alloc, truths, workers, gate)?;
     Ok(hit)
 }
 
 /// How often the job of a search asks a table, as its locals count.
-pub fn asked<H: Threads + Sync, G: Turnstile + Sync>(
+pub fn count_calls<H: Threads + Sync, G: Turnstile + Sync>(
     th: &H,
     alloc: Global,
     truths: &[bool],
@@ -132,7 +135,7 @@ pub fn asked<H: Threads + Sync, G: Turnstile + Sync>(
     requires few { workers ≤ 8 }
 {
     let total = truths.len() as u64;
-    let (best, mut shares) = dealt(alloc, total, workers)?;
+    let (best, mut shares) = deal_seekers(alloc, total, workers)?;
     let sweep = Sweep::new(total, Table::new(truths));
     let search = Search {
         sweep: &sweep,
@@ -147,7 +150,7 @@ pub fn asked<H: Threads + Sync, G: Turnstile + Sync>(
 
 /// How often each of two seekers of one best word asks a table, where the second has turns at 0 and 5 and the first has its
 /// one turn at 3, between them.
-pub fn asked_in_turn(alloc: Global, truths: &[bool]) -> Result<(u64, u64), AllocError>
+pub fn calls_in_turn(alloc: Global, truths: &[bool]) -> Result<(u64, u64), AllocError>
     requires { 5 < length truths.now }
 {
     let (best, mut seats) = Best::new(alloc, 2)?;

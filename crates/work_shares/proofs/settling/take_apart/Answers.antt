@@ -3,7 +3,7 @@ use Rattle.std.proofs.lemmas.List.{nil_from_length}
 use Rattle.work_shares.specs.declared.share.Share.{Share}
 use Rattle.work_shares.specs.Parts.{HasRoom}
 use Rattle.work_shares.proofs.Parting.{parting_starts, parting_step, parting_ends, holds_first}
-use Rattle.work_shares.proofs.settling.parted.Goals as goal
+use Rattle.work_shares.proofs.settling.take_apart.Goals as goal
 
 pub loop-shares-init : goal.loop-shares-init
 loop-shares-init g c =

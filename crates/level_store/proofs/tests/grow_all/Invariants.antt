@@ -1,6 +1,6 @@
 use Rattle.std.proofs.Common.{◌≡◌, ◌+◌, ◌-◌, length}
 use Rattle.level_store.specs.Stored.{qubits_of_all, levels_of}
-use Rattle.level_store.proofs.tests.all_grown.Given as goal
+use Rattle.level_store.proofs.tests.grow_all.Given as goal
 
 abbrev pub invariant-loop-alloc : goal.invariant-loop-alloc
 invariant-loop-alloc g l = record {

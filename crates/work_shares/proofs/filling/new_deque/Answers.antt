@@ -2,7 +2,7 @@ use Rattle.std.proofs.Common.{◌++◌, replicate, ap, ◌∙◌}
 use Rattle.work_shares.specs.declared.entry.View.{View}
 use Rattle.work_shares.specs.declared.entry.Entry.TheVariants.{End}
 use Rattle.work_shares.specs.Entries.{entries_of}
-use Rattle.work_shares.proofs.filling.filled.Goals as goal
+use Rattle.work_shares.proofs.filling.new_deque.Goals as goal
 
 pub returns : goal.returns
 unfolding entries_of

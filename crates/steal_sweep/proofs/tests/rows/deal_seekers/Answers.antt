@@ -6,7 +6,7 @@ use Rattle.steal_sweep.specs.declared.search.Seeker.{Seeker}
 use Rattle.steal_sweep.specs.declared.tests.rows.Kept.{Kept}
 use Rattle.steal_sweep.specs.Seats.{AreNewSeatsOf}
 use Rattle.steal_sweep.proofs.Lists.{map_back}
-use Rattle.steal_sweep.proofs.tests.rows.dealt.Goals as goal
+use Rattle.steal_sweep.proofs.tests.rows.deal_seekers.Goals as goal
 
 pub returns-clause-fits : goal.returns-clause-fits
 returns-clause-fits c =

@@ -1,6 +1,6 @@
 use Rattle.std.proofs.Common.{vec_len}
 use Rattle.work_shares.proofs.Parting.{IsParting}
-use Rattle.work_shares.proofs.settling.parted.Given as goal
+use Rattle.work_shares.proofs.settling.take_apart.Given as goal
 
 abbrev pub invariant-loop-shares : goal.invariant-loop-shares
 invariant-loop-shares g l = IsParting l.fn.shares.items l.shares.items l.parts

@@ -1,6 +1,6 @@
 use Rattle.std.proofs.Common.{◌∙◌}
 use Rattle.work_shares.proofs.Handing.{filled_more}
-use Rattle.work_shares.proofs.filling.filled_all.Goals as goal
+use Rattle.work_shares.proofs.filling.new_deques.Goals as goal
 
 pub loop-worker-preserved : goal.loop-worker-preserved
 loop-worker-preserved c =

@@ -2,7 +2,7 @@ use Rattle.std.proofs.Common.{◌≡◌, [], Some, refl}
 use Rattle.std.proofs.lemmas.List.Elements.{All-pop}
 use Rattle.steal_sweep.specs.Seats.{IsSeatOf, known_by}
 use Rattle.steal_sweep.proofs.Found.{covers_none}
-use Rattle.steal_sweep.proofs.tests.tables.asked_in_turn.Goals as goal
+use Rattle.steal_sweep.proofs.tests.tables.calls_in_turn.Goals as goal
 
 pub turn-requires-3-clause-seat : goal.turn-requires-3-clause-seat
 turn-requires-3-clause-seat c =

@@ -4,7 +4,7 @@ use Rattle.steal_sweep.specs.declared.search.Seeker.{Seeker}
 use Rattle.steal_sweep.specs.declared.tests.tables.Calls.{Calls}
 use Rattle.steal_sweep.specs.Seats.{AreNewSeatsOf}
 use Rattle.steal_sweep.proofs.Lists.{map_back}
-use Rattle.steal_sweep.proofs.tests.tables.dealt.Goals as goal
+use Rattle.steal_sweep.proofs.tests.tables.deal_seekers.Goals as goal
 
 pub returns-clause-seats : goal.returns-clause-seats
 returns-clause-seats c =
