@@ -226,7 +226,7 @@ impl Channel {
     }
 
     /// The cells, row by row, before they are divided.
-    pub fn cells(&self) -> &[Root2]
+    pub(crate) fn cells(&self) -> &[Root2]
         ensures cells { result.now ≡ self.now.cells }
         ensures valid { IsChannelGrid self.now }
     {

@@ -170,7 +170,7 @@ impl Narrow {
     }
 
     /// Writes the cells, row by row.
-    pub fn write_cells(&self, cells: &mut [Root2])
+    pub(crate) fn write_cells(&self, cells: &mut [Root2])
         requires { length cells.old ≡ 4 ^ self.now.qubits * 4 ^ self.now.qubits }
         ensures cells { cells.new ≡ self.now.cells }
         ensures valid { IsNarrowGrid self.now }
