@@ -8,7 +8,7 @@ use Rattle.channel_rep.specs.Tables.{turned_over}
 use Rattle.channel_rep.specs.Conjugations.{conjugated, conjugated_by, pauli_in, PauliMap, image_of, IsPauliMap, IsConjugationBy}
 use Rattle.channel_rep.specs.declared.gate.ChannelGate.{ChannelGate}
 use Rattle.channel_rep.specs.declared.gate.ChannelGate.TheVariants.{H, S, Sdg, Cx}
-use Rattle.channel_rep.proofs.Images.{image-lt, image-image, crossed_code_is, crossed_sign_is}
+use Rattle.channel_rep.proofs.Images.{image-lt, image-image, crossed_is}
 use Rattle.channel_rep.proofs.Squares.{codes_few}
 
 -- a Pauli and a sign, by parts
@@ -23,9 +23,8 @@ image-three n few (S q) fits code l = refl
 image-three n few (Sdg q) fits code l = refl
 image-three n few (Cx control target) fits code l =
     let l3 : code < 64 = omega (arith, codes_few n few) in
-    same_parts _ _
-    (sym (crossed_code_is 3 control target code _ _ (omega arith) (omega (arith, fits.0)) (omega (arith, fits.1)) fits.2 l3 refl refl) ∙ crossed_code_is n control target code _ _ few fits.0 fits.1 fits.2 l refl refl)
-    (sym (crossed_sign_is 3 control target code _ _ (omega arith) (omega (arith, fits.0)) (omega (arith, fits.1)) fits.2 l3 refl refl) ∙ crossed_sign_is n control target code _ _ few fits.0 fits.1 fits.2 l refl refl)
+    sym (crossed_is 3 control target code _ _ (omega arith) (omega (arith, fits.0)) (omega (arith, fits.1)) fits.2 l3 refl refl)
+    ∙ crossed_is n control target code _ _ few fits.0 fits.1 fits.2 l refl refl
 
 -- gates behind gates
 pub conjugated_by-append : (n : ℕ) (c d : List ChannelGate) (s : Signed) → conjugated_by n (c ++ d) s ≡ conjugated_by n d (conjugated_by n c s)

@@ -1,8 +1,9 @@
 -- Lemmas for the crates above: what the gates make of codes, computed on one to three qubits.
-use Rattle.std.proofs.Common.{◌≡◌, ◌≢◌, ℕ, zero, suc, ◌-◌, ◌*◌, ◌/◌, ◌%◌, ◌^◌, ◌<◌, ◌≤◌, ◌==◌, ◌||◌, ◌&&◌, bit_xor, Bool, true, false, T, eqb, eqb→eq, ltb, ltb→lt, ap, sym, ◌∙◌, subst, arith}
+use Rattle.std.proofs.Common.{◌≡◌, ◌≢◌, ℕ, ◌-◌, ◌*◌, ◌/◌, ◌%◌, ◌^◌, ◌<◌, ◌≤◌, ◌==◌, ◌||◌, ◌&&◌, bit_xor, Bool, true, false, T, eqb, eqb→eq, ltb, ltb→lt, ap, sym, ◌∙◌, subst, arith}
 use Rattle.std.proofs.lemmas.Bool.{ne_eqb}
 use Rattle.std.proofs.lemmas.Nat.{xor_lt, shl_whole}
 use mathlib.Core.Bool.{beq}
+use Rattle.ring_laws.proofs.Sizes.{sizes}
 use Rattle.pauli_basis.specs.Letters.{letter_of}
 use Rattle.pauli_basis.specs.Products.{Signed, turns}
 use Rattle.pauli_basis.proofs.Letters.{two_bits, letter_of-lt}
@@ -19,21 +20,10 @@ letter_shifted q letter l h = shl_whole letter 2 (2 * q) 8 h (omega arith) ∙ a
 pub with_letter_shifted : (q code letter : ℕ) → q < 3 → letter < 4 → bit_xor code (bit_xor (letter_of q code) letter * 2 ^ (2 * q) % 256) ≡ with_letter q code letter
 with_letter_shifted q code letter l h = ap (bit_xor code) (letter_shifted q _ l (xor_lt 2 (letter_of q code) letter (letter_of-lt q code) h))
 
--- a letter changed on its qubit
-pub on_qubit_code : (change : ℕ → Signed) (q code letter new : ℕ) → letter ≡ letter_of q code → new ≡ (change letter).code → with_letter q code new ≡ (on_qubit q change code).code
-on_qubit_code change q code letter new e d = ap (with_letter q code) (d ∙ ap (λ l. (change l).code) e)
-
--- and its sign
-pub on_qubit_sign : (change : ℕ → Signed) (q code letter : ℕ) (sign : Bool) → letter ≡ letter_of q code → sign ≡ (change letter).is_negative → sign ≡ (on_qubit q change code).is_negative
-on_qubit_sign change q code letter sign e d = d ∙ ap (λ l. (change l).is_negative) e
-
--- what holds of one, two and three
-pub sizes : (P : ℕ → Type 0) → P 1 → P 2 → P 3 → (n : ℕ) → 0 < n → n ≤ 3 → P n
-sizes P one two three zero some few = absurd (omega arith)
-sizes P one two three (suc zero) some few = one
-sizes P one two three (suc (suc zero)) some few = two
-sizes P one two three (suc (suc (suc zero))) some few = three
-sizes P one two three (suc (suc (suc (suc n)))) some few = absurd (omega arith)
+-- a letter's image in its place, where the letter, its image and what is made are given by equations
+pub on_qubit_is : (change : ℕ → Signed) (q code letter : ℕ) (new made : Signed) → letter ≡ letter_of q code → new ≡ change letter
+    → made ≡ record { code = with_letter q code new.code; is_negative = new.is_negative } → made ≡ on_qubit q change code
+on_qubit_is change q code letter new made e d m = m ∙ ap (λ (s : Signed). record { code = with_letter q code s.code; is_negative = s.is_negative }) (d ∙ ap change e)
 
 -- a comparison of two tests that holds
 pub beq_is : (a b : Bool) → T (beq a b) → a ≡ b
@@ -94,18 +84,21 @@ crossed n control target code few c t d l =
     (apart control target _ d (all_at2 n n (λ control target. eqb control target || all (4 ^ n) (crosses n control target)) (sizes (λ n. T (all_cross n)) cross_1 cross_2 cross_3 n (omega arith) few) control target c t))
     code l
 
--- the two letters are given by equations
-pub crossed_code_is : (n control target code c t : ℕ) → n ≤ 3 → control < n → target < n → control ≢ target → code < 4 ^ n → c ≡ letter_of control code → t ≡ letter_of target code
-    → crossed_code control target code c t ≡ (cx_image n control target code).code
-crossed_code_is n control target code c t few lc lt d l ec et =
-    (λ i. crossed_code control target code (ec i) (et i)) ∙ eqb→eq _ _ (and_left _ _ (crossed n control target code few lc lt d l))
+-- what the two letters make of a code
+abbrev crossed_image : ℕ → ℕ → ℕ → ℕ → ℕ → Signed
+crossed_image control target code c t = record { code = crossed_code control target code c t; is_negative = crossed_sign c t == 1 }
 
--- and the sign
-pub crossed_sign_is : (n control target code c t : ℕ) → n ≤ 3 → control < n → target < n → control ≢ target → code < 4 ^ n → c ≡ letter_of control code → t ≡ letter_of target code
-    → (crossed_sign c t == 1) ≡ (cx_image n control target code).is_negative
-crossed_sign_is n control target code c t few lc lt d l ec et =
+-- the two letters are given by equations
+pub crossed_is : (n control target code c t : ℕ) → n ≤ 3 → control < n → target < n → control ≢ target → code < 4 ^ n → c ≡ letter_of control code → t ≡ letter_of target code
+    → crossed_image control target code c t ≡ cx_image n control target code
+crossed_is n control target code c t few lc lt d l ec et =
+    let both = crossed n control target code few lc lt d l in
+    let same : crossed_code control target code c t ≡ (cx_image n control target code).code =
+    (λ i. crossed_code control target code (ec i) (et i)) ∙ eqb→eq _ _ (and_left _ _ both) in
+    let sign : (crossed_sign c t == 1) ≡ (cx_image n control target code).is_negative =
     (λ i. crossed_sign (ec i) (et i) == 1)
-    ∙ beq_is _ _ (and_right (eqb (crossed_code control target code (letter_of control code) (letter_of target code)) (cx_image n control target code).code) _ (crossed n control target code few lc lt d l))
+    ∙ beq_is _ _ (and_right (eqb (crossed_code control target code (letter_of control code) (letter_of target code)) (cx_image n control target code).code) _ both) in
+    λ i. record { code = same i; is_negative = sign i }
 
 -- a gate of n qubits is one of three
 pub fits_three : (n : ℕ) → n ≤ 3 → (g : ChannelGate) → GateFits n g → GateFits 3 g

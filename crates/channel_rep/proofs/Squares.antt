@@ -1,7 +1,7 @@
 -- Lemmas for the crates above: the places of a square table, row by row.
-use Rattle.std.proofs.Common.{◌≡◌, ℕ, ◌+◌, ◌*◌, ◌/◌, ◌%◌, ◌^◌, ◌<◌, ◌≤◌, subst, arith, lit<}
-use Rattle.std.proofs.lemmas.Nat.{mul-le, mul-add-lt, div-mul-add, mod-mul-add, div_below, mod_below, div-add-mod', pow_pos}
-use Rattle.pauli_basis.proofs.Letters.{two_bits}
+use Rattle.std.proofs.Common.{◌≡◌, ℕ, ◌+◌, ◌*◌, ◌/◌, ◌%◌, ◌^◌, ◌<◌, ◌≤◌, arith, lit<}
+use Rattle.std.proofs.lemmas.Nat.{mul-le, mul-add-lt, div-mul-add, mod-mul-add, div_below, mod_below, div-add-mod'}
+pub use Rattle.pauli_basis.proofs.Letters.{codes_some}
 use Rattle.std.proofs.Math.Nat.{pow-le-pow_right}
 
 -- at most 64 rows, and 4096 places
@@ -23,10 +23,6 @@ row_of_place size row column l = div-mul-add row size column l
 -- and its column
 pub column_of_place : (size row column : ℕ) → column < size → (row * size + column) % size ≡ column
 column_of_place size row column l = mod-mul-add row size column l
-
--- the row and the column of a place
-pub codes_some : (n : ℕ) → 0 < 4 ^ n
-codes_some n = subst (λ m. 0 < m) (two_bits n) (pow_pos (2 * n))
 
 -- a place has a row of the table
 pub row_below : (n place : ℕ) → place < 4 ^ n * 4 ^ n → place / 4 ^ n < 4 ^ n

@@ -46,9 +46,10 @@ pub left_within : (size bound : ℕ) (turn : ℕ → ℕ) (changed : SurdTable �
 left_within size bound turn changed i old new before small r c l m e = subst (SurdWithin bound) (sym (before.left r c l m (omega arith))) (small r c l m)
 
 -- ---- the turns of a rotation
-commuting_turn : (n p r : ℕ) → commute n p r ≡ true → rotation_turn n p r ≡ r
+-- a row that commutes changes at its own turn
+pub turn_of_row : (n p r : ℕ) → commute n p r ≡ true → rotation_turn n p r ≡ r
 unfolding rotation_turn
-commuting_turn n p r e = cond-true (commute n p r) r (min r (product_code p r)) e
+turn_of_row n p r e = cond-true (commute n p r) r (min r (product_code p r)) e
 
 -- a row that anticommutes changes at the lower of the two
 paired_turn : (n p r : ℕ) → commute n p r ≡ false → rotation_turn n p r ≡ min r (product_code p r)
@@ -58,7 +59,7 @@ paired_turn n p r e = cond-false (commute n p r) r (min r (product_code p r)) e
 -- no row has to wait for longer than its own turn
 pub rotation_turn-le : (n p r : ℕ) → rotation_turn n p r ≤ r
 rotation_turn-le n p r = elim (cases_Bool (commute n p r)) [
-  | inl e ↦ omega (arith, commuting_turn n p r e)
+  | inl e ↦ omega (arith, turn_of_row n p r e)
   | inr e ↦ omega (arith, paired_turn n p r e)
 ]
 
@@ -86,7 +87,7 @@ rotated_local n inverse p lp m m' r c l h = elim (cases_Bool (commute n p r)) [
 -- which rows have the turn of a row
 same_or_partner : (n p r row : ℕ) → rotation_turn n p r ≡ row → (r ≡ row) ⊎ ((commute n p r ≡ false) × (product_code p r ≡ row))
 same_or_partner n p r row e = elim (cases_Bool (commute n p r)) [
-  | inl t ↦ inl (sym (commuting_turn n p r t) ∙ e)
+  | inl t ↦ inl (sym (turn_of_row n p r t) ∙ e)
   | inr f ↦ by f (sym (paired_turn n p r f) ∙ e)
 ]
   where
@@ -125,7 +126,7 @@ module _ (n : ℕ) (inverse : Bool) (p row : ℕ) (old new : List Root2) (l : ro
               subst P (sym same) (step.row_is c m ∙ sym (cond-true (commute n p row) _ _ t))
           | inr other ↦ absurd (clash n p row t (ap (commute n p) (sym other.1) ∙ commute-back n p r ∙ other.0))
         ];
-    elsewhere = λ r c k m d. step.others r c k m (λ e. d (ap (rotation_turn n p) e ∙ commuting_turn n p row t));
+    elsewhere = λ r c k m d. step.others r c k m (λ e. d (ap (rotation_turn n p) e ∙ turn_of_row n p row t));
   }
 
   -- a pair that anticommutes is turned at the turn of the lower row
@@ -207,10 +208,6 @@ turned_at n size inverse p row partner negative old new l e d f order sign step 
 pub left_at : (n : ℕ) (inverse : Bool) (p row partner : ℕ) (old : List Root2) → row < 4 ^ n → partner ≡ product_code p row → commute n p row ≡ false → partner ≤ row
     → ChangesRows (4 ^ n) (rotation_turn n p) row (rotated n inverse p) old old
 left_at n inverse p row partner old l d f order = no_change n inverse p row old old l f (subst (λ x. x ≤ row) d order)
-
--- the rows that a turn changes
-pub turn_of_row : (n p row : ℕ) → commute n p row ≡ true → rotation_turn n p row ≡ row
-turn_of_row = commuting_turn
 
 -- the lower row of a pair
 pub turn_of_low : (n p row partner : ℕ) → partner ≡ product_code p row → commute n p row ≡ false → row < partner → rotation_turn n p row ≡ row

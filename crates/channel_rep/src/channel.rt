@@ -15,7 +15,7 @@ use crate::rows::cell_at;
 use crate::steps::{codes, conjugate_rows, move_rows, rotate_rows};
 use crate::units::{is_signed_permutation, unit_of_column};
 use crate::{ChannelGate, Conjugation, Narrow};
-use pauli_basis::Pauli;
+use pauli_basis::{Pauli, SignedPauli};
 use std::alloc::{AllocError, Global};
 use std::marker::Model;
 use tc_ring::Root2;
@@ -290,19 +290,14 @@ impl Channel {
         self.k == 0 && is_signed_permutation(&self.cells, codes(self.n))
     }
 
-    /// The Pauli to which a signed permutation takes `p`, and whether with a negative sign: the row of the one cell of the
-    /// column of `p`, and whether it is −1.
-    pub fn image(&self, p: Pauli) -> (Pauli, bool)
+    /// The Pauli with a sign to which a signed permutation takes `p`: the row of the one cell of the column of `p`, and
+    /// whether that cell is −1.
+    pub fn image(&self, p: Pauli) -> SignedPauli
         requires permutation { IsSignedPermutation self.now }
         requires same { p.qubits ≡ self.now.qubits }
-        ensures qubits { result.0.qubits ≡ self.now.qubits }
-        ensures code { result.0.code < 4 ^ self.now.qubits }
-        ensures cell { table_of self.now result.0.code p.code ≡ signed result.1 one_surd }
+        ensures code { result.code < 4 ^ self.now.qubits }
+        ensures cell { table_of self.now result.code p.code ≡ signed result.is_negative one_surd }
     {
-        let (row, negative) = unit_of_column(&self.cells, codes(self.n), p.code() as usize);
-        let Some(image) = Pauli::new(self.n, row as u8) else {
-            unreachable!()
-        };
-        (image, negative)
+        unit_of_column(&self.cells, codes(self.n), p.code() as usize)
     }
 }

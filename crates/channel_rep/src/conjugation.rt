@@ -6,6 +6,7 @@ ghost use Rattle.channel_rep.specs.Gates.{GateFits, positive};
 ghost use Rattle.channel_rep.specs.Conjugations.{pauli_in, conjugated};
 
 use crate::ChannelGate;
+use pauli_basis::SignedPauli;
 use std::marker::Model;
 
 /// The codes of the Paulis on three qubits.
@@ -142,13 +143,12 @@ impl Conjugation {
         self.n
     }
 
-    /// What it makes of a Pauli: the code, and whether with a negative sign.
-    pub fn image(&self, code: u8) -> (u8, bool)
+    /// What it makes of the Pauli of a code.
+    pub fn image(&self, code: u8) -> SignedPauli
         requires { code < 64 }
-        ensures code { result.0 ≡ (image_of self.now code).code }
-        ensures sign { result.1 ≡ (image_of self.now code).is_negative }
+        ensures { result ≡ image_of self.now code }
     {
         let image = self.images[code as usize];
-        (image % 64, image / 64 % 2 == 1)
+        SignedPauli::new(image % 64, image / 64 % 2 == 1)
     }
 }

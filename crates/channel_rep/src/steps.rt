@@ -34,16 +34,14 @@ fn rotate_row(cells: &mut [Root2], p: &Pauli, inverse: bool, row: usize)
 {
     let n = p.qubits();
     let size = codes(n);
-    let Some(q) = Pauli::new(n, row as u8) else {
-        unreachable!()
-    };
+    let q = Pauli::of_code(n, row as u8);
     if p.commutes(&q) {
         scale_row(cells, size, row);
     } else {
-        let (partner, negative) = p.anti_image(&q);
-        let partner = partner.code() as usize;
+        let image = p.anti_image(&q);
+        let partner = image.code() as usize;
         if row < partner {
-            turn_pair(cells, size, row, partner, negative == inverse);
+            turn_pair(cells, size, row, partner, image.is_negative() == inverse);
         }
     }
 }
@@ -77,11 +75,13 @@ fn move_row(cells: &mut [Root2], n: u8, gate: ChannelGate, row: usize)
     ensures change { ChangesRows (4 ^ n) (gate_turn n gate) row (moved n gate) cells.old cells.new }
 {
     let size = codes(n);
-    let (image, negative) = gate.image(row as u8);
-    let partner = image as usize;
+    let image = gate.image(row as u8);
+    let code = image.code();
+    let negative = image.is_negative();
+    let partner = code as usize;
     if row < partner {
-        let (_, back_negative) = gate.image(image);
-        swap_pair(cells, size, row, partner, back_negative, negative);
+        let back = gate.image(code);
+        swap_pair(cells, size, row, partner, back.is_negative(), negative);
     } else if partner == row {
         sign_row(cells, size, row, negative);
     }
@@ -114,8 +114,9 @@ pub fn conjugate_rows(cells: &mut [Root2], from: &[Root2], by: &Conjugation)
 {
     let size = codes(by.qubits());
     for row in 0..size {
-        let (image, negative) = by.image(row as u8);
+        let image = by.image(row as u8);
+        let new_row = image.code() as usize;
         let old_row = &from[row * size..(row + 1) * size];
-        put_row(cells, size, image as usize, old_row, negative);
+        put_row(cells, size, new_row, old_row, image.is_negative());
     }
 }

@@ -1,7 +1,7 @@
 ghost use Rattle.std.specs.Prelude.{◌≡◌, ◌≢◌, IfOk};
 
 use crate::{Channel, ChannelGate, Conjugation, MOST_EXPONENT, laws};
-use pauli_basis::Pauli;
+use pauli_basis::{Pauli, SignedPauli};
 use std::process::Abort;
 use std::test::Fail;
 use tc_ring::Root2;
@@ -49,9 +49,8 @@ fn assert_images(rt: &impl Abort, c: &Channel, want: &[(u8, u8, bool)]) -> Resul
     assert!(rt; c.signed_permutation());
     for (code, image, negative) in want {
         let p = Pauli::new(c.qubits(), *code).ok_or("no such Pauli")?;
-        let (q, sign) = c.image(p);
-        assert_eq!(rt; q.code(), *image, "the image of {p}");
-        assert_eq!(rt; sign, *negative, "the sign at {p}");
+        let want = SignedPauli::new(*image, *negative);
+        assert_eq!(rt; c.image(p), want, "the image of {p}");
     }
     Ok(())
 }
@@ -158,7 +157,8 @@ fn a_run_conjugates_each_pauli(rt: HostRuntime) -> Result<(), Fail> {
         (12, 15, false),
     ];
     for (code, image, negative) in want {
-        assert_eq!(rt; run.image(code), (image, negative), "the image of {code}");
+        let want = SignedPauli::new(image, negative);
+        assert_eq!(rt; run.image(code), want, "the image of {code}");
     }
     Ok(())
 }

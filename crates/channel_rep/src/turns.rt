@@ -69,16 +69,14 @@ fn rotate_row(a: &mut [i16], b: &mut [i16], p: &Pauli, inverse: bool, row: usize
 {
     let n = p.qubits();
     let size = codes(n);
-    let Some(q) = Pauli::new(n, row as u8) else {
-        unreachable!()
-    };
+    let q = Pauli::of_code(n, row as u8);
     if p.commutes(&q) {
         scale_parts(a, b, size, row);
     } else {
-        let (partner, negative) = p.anti_image(&q);
-        let partner = partner.code() as usize;
+        let image = p.anti_image(&q);
+        let partner = image.code() as usize;
         if row < partner {
-            turn_parts(a, b, size, row, partner, negative == inverse);
+            turn_parts(a, b, size, row, partner, image.is_negative() == inverse);
         }
     }
 }

@@ -6,6 +6,7 @@ ghost use Rattle.channel_rep.specs.Tables.{signed};
 ghost use Rattle.channel_rep.specs.Cells.{cell_of, entries, IsUnit, HasOneUnit};
 
 use crate::rows::cell_at;
+use pauli_basis::SignedPauli;
 use tc_ring::Root2;
 
 const ZERO: Root2 = Root2 { a: 0, b: 0 };
@@ -70,18 +71,19 @@ pub fn is_signed_permutation(cells: &[Root2], size: usize) -> bool
     all_have_one_unit(cells, size, size, 1) && all_have_one_unit(cells, size, 1, size)
 }
 
-/// The row of the one cell of a column that isn't 0, and whether it is negative.
-pub fn unit_of_column(cells: &[Root2], size: usize, column: usize) -> (usize, bool)
+/// The row of the one cell of a column that isn't 0, as a code, with the sign of that cell.
+pub fn unit_of_column(cells: &[Root2], size: usize, column: usize) -> SignedPauli
+    requires few { size ≤ 64 }
     requires whole { length cells.now ≡ size * size }
     requires below { column < size }
     requires one { HasOneUnit size (λ row. entries size cells.now row column) }
-    ensures row { result.0 < size }
-    ensures cell { entries size cells.now result.0 column ≡ signed result.1 one_surd }
+    ensures row { result.code < size }
+    ensures cell { entries size cells.now result.code column ≡ signed result.is_negative one_surd }
 {
     for row in 0..size {
         let cell = cell_at(cells, size, row, column);
         if !is_zero(cell) {
-            return (row, cell == MINUS_ONE);
+            return SignedPauli::new(row as u8, cell == MINUS_ONE);
         }
     }
     unreachable!()

@@ -1,7 +1,7 @@
 -- What leaves X and Z on every qubit leaves every Pauli.
 use Rattle.std.proofs.Common.{◌≡◌, ℕ, zero, suc, ◌+◌, ◌*◌, ◌%◌, ◌^◌, ◌<◌, ◌≤◌, Bool, true, false, ◌&&◌, T as Holds, eqb, eqb→eq, ltb, ltb→lt, refl, subst, arith, lit<}
 use Rattle.tc_circuit.specs.Model.{ScaledMatrix}
-use Rattle.tc_circuit.proofs.Flips.{sizes}
+use Rattle.ring_laws.proofs.Sizes.{sizes}
 use Rattle.pauli_basis.specs.Letters.{letter_of}
 use Rattle.pauli_basis.specs.Products.{Signed, product_code, turns, sign_turns}
 use Rattle.pauli_basis.proofs.Letters.{letter_of-lt}

@@ -6,7 +6,7 @@ use Rattle.ring_laws.specs.Cyclotomic.{cyclotomics}
 use Rattle.tc_ring.specs.Surds.{surds}
 use Rattle.tc_circuit.specs.Gate.{Table, gate_table}
 use Rattle.tc_circuit.specs.Model.{ScaledMatrix, after, matrix_of, IsCircuit, t_count_of}
-use Rattle.tc_circuit.proofs.Flips.{sizes}
+use Rattle.ring_laws.proofs.Sizes.{sizes}
 use Rattle.pauli_basis.specs.Products.{Signed}
 use Rattle.channel_rep.specs.declared.gate.ChannelGate.{ChannelGate}
 use Rattle.channel_rep.specs.declared.gate.ChannelGate.TheVariants.{H, S, Sdg, Cx}

@@ -16,7 +16,7 @@ use Rattle.channel_rep.proofs.OneUnit.{same_unit}
 use Rattle.channel_rep.specs.Tables.{ScaledTable, built, IsBuiltOf}
 use Rattle.tc_bridge.specs.Block.{as_gates}
 use Rattle.tc_bridge.specs.Steps.{steps_of}
-use Rattle.tc_bridge.proofs.Counts.{t_count-cons}
+use Rattle.tc_circuit.proofs.Counts.{t_count-cons}
 use Rattle.tc_bridge.proofs.CliffordTables.{gates_exponent, row_unit, column_unit}
 
 -- ---- a circuit without T gates has Clifford gates alone

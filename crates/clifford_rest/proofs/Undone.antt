@@ -5,7 +5,7 @@ use Rattle.std.proofs.lemmas.Bool.{cases_eq}
 use Rattle.std.proofs.lemmas.List.{length-append}
 use Rattle.std.proofs.lemmas.Nat.{xor_comm}
 use Rattle.tc_circuit.specs.Model.{ScaledMatrix, after}
-use Rattle.tc_circuit.proofs.Flips.{sizes}
+use Rattle.ring_laws.proofs.Sizes.{sizes}
 use Rattle.pauli_basis.specs.Products.{Signed, product_code, clashes, commute, sign_turns}
 use Rattle.pauli_basis.proofs.Small.{all, all_at, and_left, and_right}
 use Rattle.pauli_basis.proofs.Products.{product_code-lt, commute_both_orders}

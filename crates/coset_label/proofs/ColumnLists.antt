@@ -15,7 +15,7 @@ numbers_of_cells cell other row (suc count) h =
     λ i. (h row (omega arith) i).a ∷ (h row (omega arith) i).b ∷ numbers_of_cells cell other (row + 1) count (λ r l. h r (omega arith)) i
 
 -- equal numbers are of equal cells
-cells_of_numbers : (cell other : ℕ → Surd) (row count : ℕ) → numbers_from cell row count ≡ numbers_from other row count → (r : ℕ) → row ≤ r → r < row + count → cell r ≡ other r
+pub cells_of_numbers : (cell other : ℕ → Surd) (row count : ℕ) → numbers_from cell row count ≡ numbers_from other row count → (r : ℕ) → row ≤ r → r < row + count → cell r ≡ other r
 cells_of_numbers cell other row zero e r l h = absurd (omega arith)
 cells_of_numbers cell other row (suc count) e r l h = elim (cases_eq r row) [
   | inl here ↦ ap cell here ∙ same_surd (cc) (cc) ∙ ap other (sym here)

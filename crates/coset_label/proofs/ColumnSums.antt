@@ -11,7 +11,7 @@ use Rattle.coset_label.specs.Labels.{Column, numbers_from, column_of}
 use Rattle.coset_label.specs.Tags.{residue, fold_number, joined, label_numbers}
 use Rattle.coset_label.specs.Scratch.{kept_column, kept_label, turned_column}
 use Rattle.coset_label.specs.Sums.{column_sum, turned_sum, joined_sums, AreSums}
-use Rattle.coset_label.proofs.PackedWords.{pow_four}
+use Rattle.pauli_basis.proofs.Letters.{two_bits}
 use Rattle.coset_label.proofs.Horner.{step_same, fold_behind, fold_negative}
 
 -- 2^38 divides 2^64
@@ -50,7 +50,7 @@ power_step power i e =
 -- the power of a whole column
 pub power_done : (n i : ℕ) → i ≡ 2 * n + 1 → 1000003 ^ (2 ^ i) % 2 ^ 64 ≡ 1000003 ^ (2 * 4 ^ n) % 2 ^ 64
 power_done n i e =
-    let whole : 2 ^ i ≡ 2 * 4 ^ n = ap (λ k. 2 ^ k) e ∙ (omega (arith, pow-add 2 (2 * n) 1, pow_four n)) in
+    let whole : 2 ^ i ≡ 2 * 4 ^ n = ap (λ k. 2 ^ k) e ∙ (omega (arith, pow-add 2 (2 * n) 1, two_bits n)) in
     ap (λ k. 1000003 ^ k % 2 ^ 64) whole
 
 -- one column more

@@ -1,11 +1,11 @@
 -- Lemmas for the crates above: packed words against the words that they stand for.
-use Rattle.std.proofs.Common.{◌≡◌, ◌≢◌, ℕ, zero, suc, ◌+◌, ◌-◌, ◌*◌, ◌/◌, ◌%◌, ◌^◌, ◌<◌, ◌≤◌, ◌↔◌, List, [], ◌∷◌, ◌++◌, length, IsTrue, slice_get, Some, refl, ap, sym, ◌∙◌, subst, arith, nat_lt, nat_eq, Bool, bit_and, Fits, w32, add-one}
+use Rattle.std.proofs.Common.{◌≡◌, ◌≢◌, ℕ, zero, suc, ◌+◌, ◌-◌, ◌*◌, ◌/◌, ◌%◌, ◌^◌, ◌<◌, ◌≤◌, ◌↔◌, List, [], ◌∷◌, ◌++◌, length, IsTrue, slice_get, Some, refl, ap, sym, ◌∙◌, subst, arith, nat_lt, nat_eq, Bool, bit_and, Fits, w32, add-one, mod-lt}
 use Rattle.std.specs.Ordering.{nat_cmp}
 use Rattle.std.specs.declared.cmp.Ordering.TheVariants.{Less, Equal, Greater}
 use Rattle.std.specs.Cmp.Lexicographic.{slice_cmp}
 use Rattle.std.proofs.Math.Pow.{pow_mono}
 use Rattle.std.proofs.Math.Nat.{pow-zero, pow-suc, pow-succ', mul-suc, add-mul, mul-le-mul_right, mod-eq_of_lt, one-mul}
-use Rattle.std.proofs.lemmas.Nat.{pow-add, and_mask}
+use Rattle.std.proofs.lemmas.Nat.{pow-add}
 use Rattle.std.specs.Prelude.{◌⊎◌, ◌&&◌}
 use Rattle.std.proofs.Math.Bool.{and_assoc}
 use Rattle.std.proofs.Math.ListN.{get_or}
@@ -14,6 +14,7 @@ use Rattle.std.proofs.Common.{inl, inr}
 use Rattle.std.specs.Cmp.{nat_cmp_is}
 use Rattle.std.proofs.lemmas.Bool.{cases_lt, cases_order}
 use borrow.Author.Tests.{ltb-true, lt-ltb}
+use Rattle.pauli_basis.proofs.Letters.{two_bits, codes_some, masked}
 use Rattle.channel_rep.specs.Words.{IsWord}
 use Rattle.coset_label.specs.Words.{RotationWord, IsShortWord, most_letters, packed}
 use Rattle.coset_label.specs.Packing.{digits, IsPackedWord, length-packed, packed-digits}
@@ -80,13 +81,6 @@ count_few (suc zero) count short = omega arith
 count_few (suc (suc zero)) count short = omega arith
 count_few (suc (suc (suc n))) count short = omega arith
 
--- a power of four as one of two
-pub pow_four : (n : ℕ) → 2 ^ (2 * n) ≡ 4 ^ n
-pow_four zero = refl
-pow_four (suc n) =
-    let e : 2 * suc n ≡ 2 * n + 2 = omega arith in
-    ap (λ k. 2 ^ k) e ∙ pow-add 2 (2 * n) 2 ∙ ap (λ p. p * 4) (pow_four n) ∙ sym (pow-suc 4 n)
-
 -- the room of so many letters as a power of two
 pub room_of : (n count : ℕ) → 2 ^ (2 * n * count) ≡ (4 ^ n) ^ count
 room_of n zero = ap (λ k. 2 ^ k) nothing ∙ sym (pow-zero (4 ^ n))
@@ -95,7 +89,7 @@ room_of n zero = ap (λ k. 2 ^ k) nothing ∙ sym (pow-zero (4 ^ n))
     nothing = omega arith
 room_of n (suc count) =
     let e : 2 * n * suc count ≡ 2 * n * count + 2 * n = mul-suc (2 * n) count in
-    ap (λ k. 2 ^ k) e ∙ pow-add 2 (2 * n * count) (2 * n) ∙ (λ i. room_of n count i * pow_four n i) ∙ sym (pow-suc (4 ^ n) count)
+    ap (λ k. 2 ^ k) e ∙ pow-add 2 (2 * n * count) (2 * n) ∙ (λ i. room_of n count i * two_bits n i) ∙ sym (pow-suc (4 ^ n) count)
 
 -- the room of a word's letters
 pub room_few : (n count : ℕ) → 0 < n → n ≤ 3 → count ≤ most_letters n → (4 ^ n) ^ count ≤ 2 ^ 24
@@ -162,7 +156,7 @@ shifted_is a number next e l h = mod-eq_of_lt {n = a} {m = 2 ^ 32} (omega arith)
 
 -- the code's number with one more letter at its end
 pub back_number : (n count number p : ℕ) → number * 4 ^ n + p < 2 ^ 24 → number * 2 ^ (2 * n) % 2 ^ 32 + p ≡ number * 4 ^ n + p
-back_number n count number p h = ap (λ v. v + p) (shifted_is _ _ (number * 4 ^ n + p) (ap (λ q. number * q) (pow_four n)) (omega arith) h)
+back_number n count number p h = ap (λ v. v + p) (shifted_is _ _ (number * 4 ^ n + p) (ap (λ q. number * q) (two_bits n)) (omega arith) h)
 
 -- the code's number with one more letter before it
 pub front_number : (n count number p : ℕ) → number + p * (4 ^ n) ^ count < 2 ^ 24 → number + p * 2 ^ (2 * n * count) % 2 ^ 32 ≡ number + p * (4 ^ n) ^ count
@@ -219,7 +213,11 @@ mask_is : (n a : ℕ) → n ≤ 3 → bit_and a (1 * 2 ^ (2 * n) % 2 ^ 32 - 1) �
 mask_is n a few =
     let low : 2 ^ (2 * n) ≤ 2 ^ 6 = pow_mono {i = 2 * n} {j = 6} (omega arith) in
     let whole : 1 * 2 ^ (2 * n) % 2 ^ 32 ≡ 2 ^ (2 * n) = ap (λ q. q % 2 ^ 32) (one-mul (2 ^ (2 * n))) ∙ mod-eq_of_lt {n = 2 ^ (2 * n)} {m = 2 ^ 32} (omega arith) in
-    ap (λ q. bit_and a (q - 1)) whole ∙ and_mask a (2 * n) ∙ ap (λ q. a % q) (pow_four n)
+    masked n _ a (whole ∙ two_bits n)
+
+-- is a letter's code
+pub mask_below : (n a : ℕ) → n ≤ 3 → bit_and a (1 * 2 ^ (2 * n) % 2 ^ 32 - 1) < 4 ^ n
+mask_below n a few = subst (λ m. m < 4 ^ n) (sym (mask_is n a few)) (mod-lt a (codes_some n))
 
 -- what the code reads at a place is the letter there
 pub letter_read : (n count number i : ℕ) (w : RotationWord) (code : ℕ) → unpacked n count number ≡ w → IsPackedWord n count number → i < length w.letters

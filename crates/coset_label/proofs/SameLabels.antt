@@ -31,19 +31,6 @@ numbers_of_same f g row (suc count) same =
     let rest = numbers_of_same f g (row + 1) count (λ r l m. same r (omega arith) (omega arith)) in
     λ i. (here i).a ∷ (here i).b ∷ rest i
 
--- equal numbers are of equal cells
-cells_of_same : (f g : ℕ → Surd) (row count : ℕ) → numbers_from f row count ≡ numbers_from g row count → (r : ℕ) → row ≤ r → r < row + count → f r ≡ g r
-cells_of_same f g row zero e r l m = absurd (omega arith)
-cells_of_same f g row (suc count) e r l m =
-    let whole : (f row).a ≡ (g row).a = cc in
-    let other : (f row).b ≡ (g row).b = cc in
-    let rest : numbers_from f (row + 1) count ≡ numbers_from g (row + 1) count = cc in
-    let here : f row ≡ g row = λ i. surd (whole i) (other i) in
-    elim (cases_eq row r) [
-      | inl at ↦ ap f (sym at) ∙ here ∙ ap g at
-      | inr d ↦ cells_of_same f g (row + 1) count rest r (omega arith) (omega arith)
-    ]
-
 -- lists of columns that are equal place by place
 columns_same : (f g : ℕ → Column) (xs ys : List ℕ) → length xs ≡ length ys → ((k : ℕ) → k < length xs → f (slice_index xs k) ≡ g (slice_index ys k)) → map f xs ≡ map g ys
 columns_same f g [] [] e same = refl
@@ -79,7 +66,7 @@ columns_by_cells m k m_negative k_negative m_order k_order q h g = (there, back)
         → (row place : ℕ) → row < 4 ^ m.qubits → place < 4 ^ m.qubits → placed_cell m m_negative m_order row place ≡ placed_cell k k_negative k_order row place
     there e row place r l =
         let same = at_place place (subst (λ n. place < n) (sym h.places) l) e in
-        cells_of_same (turned_cells m (slice_index m_order place) (slice_index_or m_negative (slice_index m_order place) false))
+        cells_of_numbers (turned_cells m (slice_index m_order place) (slice_index_or m_negative (slice_index m_order place) false))
         (turned_cells k (slice_index k_order place) (slice_index_or k_negative (slice_index k_order place) false)) 0 (4 ^ m.qubits)
         (sym (kept_numbers m m_negative (slice_index m_order place)) ∙ same ∙ kept_numbers k k_negative (slice_index k_order place)
         ∙ ap (λ n. numbers_from (turned_cells k (slice_index k_order place) (slice_index_or k_negative (slice_index k_order place) false)) 0 (4 ^ n)) (sym q))

@@ -110,10 +110,7 @@ impl Word {
     {
         let behind = self.letters >> (2 * self.n * (self.len - 1 - i));
         let code = behind & ((1 << (2 * self.n)) - 1);
-        let Some(letter) = Pauli::new(self.n, code as u8) else {
-            unreachable!()
-        };
-        letter
+        Pauli::of_code(self.n, code as u8)
     }
 
     /// The letters as one number, 2n bits each, the first letter highest.

@@ -22,7 +22,8 @@ use Rattle.tc_bridge.specs.Rotation.{rotation, scaled_product, AreEqual}
 use Rattle.tc_bridge.specs.Steps.{steps_of}
 use Rattle.tc_bridge.proofs.Channels.{channel_product}
 use Rattle.tc_bridge.proofs.Conjugations.{all-append}
-use Rattle.tc_bridge.proofs.Counts.{t_count-append, word_count, word_circuit}
+use Rattle.tc_circuit.proofs.Counts.{t_count-append}
+use Rattle.tc_bridge.proofs.Counts.{word_count, word_circuit}
 use Rattle.tc_bridge.proofs.Matrices.{multiple}
 use Rattle.tc_bridge.proofs.Rotations.{turned_axis, rotation_channel}
 use Rattle.tc_bridge.proofs.ScaledMatrices.{Equal, near}

@@ -29,7 +29,8 @@ use Rattle.tc_bridge.specs.Steps.{steps_of}
 use Rattle.tc_bridge.proofs.CliffordTables.{HasEntry, entry_built, gates_exponent, identity_from_entries}
 use Rattle.tc_bridge.proofs.Codes.{undone-conjugated_by}
 use Rattle.tc_bridge.proofs.Conjugations.{all-append, as_gates-append, undone_fits}
-use Rattle.tc_bridge.proofs.Counts.{t_count-append, word_count, word_circuit, clifford_count, clifford_circuit}
+use Rattle.tc_circuit.proofs.Counts.{t_count-append}
+use Rattle.tc_bridge.proofs.Counts.{word_count, word_circuit, clifford_count, clifford_circuit}
 use Rattle.clifford_rest.proofs.TFree.{IsClifford, clifford_of}
 use Rattle.level_laws.specs.Levels.{undo}
 use Rattle.level_laws.proofs.Circuits.{HasWord, circuit_word, channel_word, circuits_joined, word_built}

@@ -17,7 +17,8 @@ use Rattle.tc_bridge.specs.Block.{word_gates}
 use Rattle.tc_bridge.specs.Steps.{steps_of}
 use Rattle.tc_bridge.proofs.CircuitChannels.{circuit_channel, steps_fit}
 use Rattle.tc_bridge.proofs.Conjugations.{all-append}
-use Rattle.tc_bridge.proofs.Counts.{t_count-append, word_count, word_circuit}
+use Rattle.tc_circuit.proofs.Counts.{t_count-append}
+use Rattle.tc_bridge.proofs.Counts.{word_count, word_circuit}
 use Rattle.tc_bridge.proofs.OneChannel.{same_channel, same_up_to}
 use Rattle.tc_bridge.proofs.Unitary.{unitary_circuit}
 use Rattle.meet_laws.specs.Laws.{IsGridOf, IsLeastCircuit}

@@ -9,7 +9,8 @@ use Rattle.channel_rep.specs.Words.{IsWord}
 use Rattle.coset_label.specs.Packing.{digits, IsPackedWord, four_pos, length-digits}
 use Rattle.coset_label.specs.Words.{RotationWord, IsShortWord, packed}
 use Rattle.coset_label.proofs.Digits.{digits_packed, packed_between}
-use Rattle.coset_label.proofs.PackedWords.{digits_below, pow_four}
+use Rattle.pauli_basis.proofs.Letters.{two_bits}
+use Rattle.coset_label.proofs.PackedWords.{digits_below}
 
 -- the first letters of a word are a word
 word_starts : (n : ℕ) (a b : List ℕ) → IsWord n (a ++ b) → IsWord n a
@@ -44,5 +45,5 @@ cut_last w h n count number q long is =
           ∙ get_or_from_slice_get w.letters count code code at in
           ap (λ x. digits base count (all / base) ++ x ∷ []) (sym last) ∙ whole;
     } in
-    let shift : all / base ≡ number / 2 ^ (2 * n) = ap (λ k. all / k) (ap (λ k. 4 ^ k) (sym q) ∙ sym (pow_four n)) ∙ ap (λ k. k / 2 ^ (2 * n)) (sym is) in
+    let shift : all / base ≡ number / 2 ^ (2 * n) = ap (λ k. all / k) (ap (λ k. 4 ^ k) (sym q) ∙ sym (two_bits n)) ∙ ap (λ k. k / 2 ^ (2 * n)) (sym is) in
     subst (λ k. IsCut k count (number / 2 ^ (2 * n)) w.letters) (sym q) (subst (λ k. IsCut w.qubits count k w.letters) shift cut)

@@ -56,9 +56,9 @@ pub letter_turns-assoc : (l m o : ℕ) → l < 4 → m < 4 → o < 4
 letter_turns-assoc l m o bl bm bo =
     eqb→eq _ _ (all_at3 4 4 4 (λ l m o. eqb ((letter_turns l m + letter_turns (bit_xor l m) o) % 4) ((letter_turns m o + letter_turns l (bit_xor m o)) % 4)) tt l m o bl bm bo)
 
--- a power of four isn't 0
-pub four_pos : (n : ℕ) → 0 < 4 ^ n
-four_pos n = subst (λ m. 0 < m) (two_bits n) (pow_pos (2 * n))
+-- there are some codes
+pub codes_some : (n : ℕ) → 0 < 4 ^ n
+codes_some n = subst (λ m. 0 < m) (two_bits n) (pow_pos (2 * n))
 
 -- the mask of the letters on n qubits
 pub masked : (n size code : ℕ) → size ≡ 4 ^ n → bit_and code (size - 1) ≡ code % 4 ^ n

@@ -1,11 +1,11 @@
 -- The lines of the gates of a print: their tokens, and what the scan makes of them.
-use Rattle.std.proofs.Common.{◌≡◌, ◌≢◌, ℕ, ◌+◌, ◌<◌, ◌≤◌, Bool, true, cond, List, [], ◌∷◌, ◌++◌, length, arith, ap, sym, refl, subst, append_assoc, length-append}
+use Rattle.std.proofs.Common.{◌≡◌, ◌≢◌, ℕ, ◌+◌, ◌<◌, ◌≤◌, Bool, true, List, [], ◌∷◌, ◌++◌, length, arith, ap, sym, refl, subst, append_assoc, length-append}
 use Rattle.std.specs.Prelude.{codes}
 use Rattle.std.specs.List.{flat_map}
-use Rattle.std.proofs.lemmas.List.Sums.{sum_by-append}
 use Rattle.std.proofs.lemmas.List.{append-nil}
-use Rattle.tc_circuit.specs.Gate.{Fits, is_t}
+use Rattle.tc_circuit.specs.Gate.{Fits}
 use Rattle.tc_circuit.specs.Model.{IsCircuit, t_count_of}
+use Rattle.tc_circuit.proofs.Counts.{t_count-append}
 use Rattle.tc_circuit.specs.declared.circuit.Gate.{Gate}
 use Rattle.tc_circuit.specs.declared.circuit.Gate.TheVariants.{H, S, Sdg, T, Tdg, Cx}
 use Rattle.qasm_lex.specs.Tokens.{gap_from}
@@ -74,8 +74,8 @@ unfolding cut_behind
 gates_read law n few [] done began count fit t many short =
     at_end (record { list = []; are = record { cut = refl; forms = tt }; state = holding n began done count; unrefused = refl; qubits = refl; same = sym (append-nil done) })
 gates_read law n few (g ∷ gates) done began count fit t many short =
-    let one : t_count_of (g ∷ gates) ≡ t_count_of (g ∷ []) + t_count_of gates = sum_by-append (λ (x : Gate). cond (is_t x) 1 0) (g ∷ []) gates in
-    let more : t_count_of (done ++ g ∷ []) ≡ t_count_of done + t_count_of (g ∷ []) = sum_by-append (λ (x : Gate). cond (is_t x) 1 0) done (g ∷ []) in
+    let one : t_count_of (g ∷ gates) ≡ t_count_of (g ∷ []) + t_count_of gates = t_count-append (g ∷ []) gates in
+    let more : t_count_of (done ++ g ∷ []) ≡ t_count_of done + t_count_of (g ∷ []) = t_count-append done (g ∷ []) in
     subst (λ (all : List Gate). Lexed (gate_line g ++ flat_map gate_line gates) (ReachesFrom n all began done count)) (append_assoc done (g ∷ []) gates)
     (gate_read law n ((done ++ g ∷ []) ++ gates) g began done count few fit.0 (omega (arith, one, t)) (omega (arith, many)) (omega (arith, short))
     (gates_read law n few gates (done ++ g ∷ []) true (count + 1) fit.1 (omega (arith, one, more, t)) (omega (arith, many, length-append done (g ∷ []))) (omega (arith, short))))

@@ -3,11 +3,11 @@ use Rattle.std.proofs.Common.{◌≡◌, ℕ, zero, suc, ◌+◌, ◌*◌, ◌<�
 use Rattle.std.proofs.lemmas.List.{length-map}
 use Rattle.std.specs.Prelude.{option_map}
 use Rattle.std.specs.List.{flat_map}
-use Rattle.std.proofs.lemmas.List.Sums.{sum_by-cons, sum_by-append}
 use Rattle.tc_circuit.specs.declared.circuit.Gate.{Gate}
 use Rattle.tc_circuit.specs.declared.circuit.Gate.TheVariants.{H, S, Sdg, T, Tdg, Cx}
 use Rattle.tc_circuit.specs.Gate.{Fits, is_t}
 use Rattle.tc_circuit.specs.Model.{IsCircuit, t_count_of}
+use Rattle.tc_circuit.proofs.Counts.{t_of, t_count-cons, t_count-append}
 use Rattle.qasm_reader.specs.State.{placed, gates_at}
 use Rattle.qasm_reader.specs.Known.{Known}
 use Rattle.qasm_reader.specs.View.{size_of, count_at}
@@ -21,20 +21,12 @@ is_t-placed qs (T a) = refl
 is_t-placed qs (Tdg a) = refl
 is_t-placed qs (Cx a b) = refl
 
--- one or no T gate
-abbrev t_of : Gate → ℕ
-t_of g = cond (is_t g) 1 0
-
 -- the T gates of placed gates
 pub t_count-placed : (qs : List ℕ) (gs : List Gate) → t_count_of (map (placed qs) gs) ≡ t_count_of gs
 t_count-placed qs [] = refl
 t_count-placed qs (g ∷ gs) =
     let one : t_of (placed qs g) ≡ t_of g = ap (λ (b : Bool). cond b 1 0) (is_t-placed qs g) in
-    omega (arith, sum_by-cons t_of (placed qs g) (map (placed qs) gs), sum_by-cons t_of g gs, one, t_count-placed qs gs)
-
--- T gates add up
-pub t_count-append : (gs more : List Gate) → t_count_of (gs ++ more) ≡ t_count_of gs + t_count_of more
-t_count-append gs more = sum_by-append t_of gs more
+    omega (arith, t_count-cons (placed qs g) (map (placed qs) gs), t_count-cons g gs, one, t_count-placed qs gs)
 
 -- the T gates of gates on each qubit
 pub t_count-each : (gs : List Gate) (qs : List ℕ) → t_count_of (flat_map (λ q. map (placed (q ∷ [])) gs) qs) ≡ t_count_of gs * length qs
@@ -93,7 +85,7 @@ pub t_count-few : (gs : List Gate) → t_count_of gs ≤ length gs
 t_count-few [] = omega arith
 t_count-few (g ∷ gs) =
     let one : t_of g ≤ 1 = go (is_t g) in
-    omega (arith, sum_by-cons t_of g gs, t_count-few gs, one)
+    omega (arith, t_count-cons g gs, t_count-few gs, one)
   where
     go : (b : Bool) → cond b 1 0 ≤ 1
     go true = omega arith

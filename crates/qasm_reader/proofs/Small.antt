@@ -11,7 +11,7 @@ use Rattle.qasm_reader.specs.State.{Register, State, start, value, after, gates_
 use Rattle.qasm_reader.specs.Rows.{Statement, has_bad_body, has_too_many_gates, row_of}
 use Rattle.qasm_reader.specs.Run.{IsTakeable}
 use Rattle.qasm_reader.specs.Read.{Reads, scan, refused_or, place_of}
-use Rattle.qasm_reader.proofs.Placing.{t_count-append}
+use Rattle.tc_circuit.proofs.Counts.{t_count-append}
 use Rattle.qasm_reader.proofs.Registers.{Inside}
 use Rattle.qasm_reader.proofs.Takeable.{AreSound, table_sound, sound_more, body_fits, takeable, circuit_append, short_before}
 use Rattle.qasm_reader.proofs.Order.{unmet}

@@ -6,6 +6,7 @@
 -- Sums: Finite sums over index functions, and matrices as functions of two indices.
 -- Cyclotomic: Z[ω] is a commutative ring, and identities over it.
 -- Squares: Sums of four squares of whole numbers.
+-- Sizes: What holds of each number of qubits.
 -- Examples: Identities that the solver closes: over the whole numbers, over any ring, over Z[ω], and with a hypothesis.
 pub mod Ring
 pub mod Integers
@@ -14,4 +15,5 @@ pub mod Reader
 pub mod Sums
 pub mod Cyclotomic
 pub mod Squares
+pub mod Sizes
 mod Examples

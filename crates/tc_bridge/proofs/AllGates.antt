@@ -3,7 +3,7 @@ use Rattle.std.proofs.Common.{ℕ, ◌<◌, ◌≤◌, Bool, true, false, ◌&&�
 use Rattle.tc_circuit.specs.Gate.{Fits}
 use Rattle.tc_circuit.specs.declared.circuit.Gate.{Gate}
 use Rattle.tc_circuit.specs.declared.circuit.Gate.TheVariants.{H, S, Sdg, T, Tdg, Cx}
-use Rattle.tc_circuit.proofs.Flips.{sizes}
+use Rattle.ring_laws.proofs.Sizes.{sizes}
 use Rattle.pauli_basis.proofs.Small.{all, all_at, and_left, and_right}
 
 -- a test of each gate on n qubits

@@ -8,7 +8,7 @@ use Rattle.tc_bridge.proofs.Matrices.{◌⊙◌, alike-sym, multiple-factor, mul
 use Rattle.ring_laws.proofs.Cyclotomic.{cyclotomics_laws as laws}
 use Rattle.tc_circuit.specs.Model.{matrix_of}
 use Rattle.tc_circuit.specs.declared.circuit.Gate.{Gate}
-use Rattle.tc_circuit.proofs.Flips.{sizes}
+use Rattle.ring_laws.proofs.Sizes.{sizes}
 use Rattle.pauli_basis.specs.Products.{turns}
 use Rattle.pauli_basis.proofs.Small.{all, all_at, and_left, and_right}
 use Rattle.channel_rep.specs.declared.gate.ChannelGate.{ChannelGate}

@@ -16,7 +16,7 @@ use Rattle.tc_circuit.specs.Model.{ScaledMatrix, after, matrix_of, IsCircuit}
 use Rattle.tc_circuit.specs.declared.circuit.Gate.{Gate}
 use Rattle.tc_circuit.specs.declared.circuit.Gate.TheVariants.{H, S, Sdg, T, Tdg, Cx}
 use Rattle.pauli_basis.proofs.Small.{all, all_at, all_at2, and_left, and_right}
-use Rattle.tc_circuit.proofs.Flips.{sizes}
+use Rattle.ring_laws.proofs.Sizes.{sizes}
 use Rattle.channel_rep.specs.declared.gate.ChannelGate.{ChannelGate}
 use Rattle.channel_rep.specs.Gates.{GateFits, image}
 use Rattle.channel_rep.specs.Tables as channel

@@ -9,7 +9,8 @@ use Rattle.tc_bridge.specs.Laws.{IsWordThenClifford, IsCircuitOfWord}
 use Rattle.tc_bridge.proofs.ScaledMatrices.{◌⊚◌, mul-right, equal_entries, near_entries}
 use Rattle.tc_bridge.proofs.Appended.{append_is}
 use Rattle.tc_bridge.proofs.Conjugations.{all-append}
-use Rattle.tc_bridge.proofs.Counts.{t_count-append, clifford_count, clifford_circuit, word_count, word_circuit}
+use Rattle.tc_circuit.proofs.Counts.{t_count-append}
+use Rattle.tc_bridge.proofs.Counts.{clifford_count, clifford_circuit, word_count, word_circuit}
 use Rattle.tc_bridge.proofs.Words.{circuit_worded, word_gates_is}
 
 -- a circuit with t T gates is a word of t letters behind a circuit without T gates

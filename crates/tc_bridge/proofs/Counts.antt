@@ -1,11 +1,10 @@
 -- Lemmas for the crates above: which circuits Clifford gates, blocks and words make, and how many T gates these have.
 use Rattle.std.proofs.Common.{◌≡◌, ◌≢◌, ℕ, ◌+◌, ◌^◌, ◌<◌, ◌≤◌, List, [], ◌∷◌, ◌++◌, length, cond, refl, arith}
-use Rattle.std.proofs.lemmas.List.Sums.{sum_by-cons, sum_by-append}
 use Rattle.std.specs.List.{AllByRecursion}
-use Rattle.tc_circuit.specs.Gate.{is_t}
 use Rattle.tc_circuit.specs.Gate as circuit
 use Rattle.tc_circuit.specs.Model.{IsCircuit, t_count_of}
 use Rattle.tc_circuit.specs.declared.circuit.Gate.{Gate}
+use Rattle.tc_circuit.proofs.Counts.{t_of, t_count-cons, t_count-append}
 use Rattle.channel_rep.specs.declared.gate.ChannelGate.{ChannelGate}
 use Rattle.channel_rep.specs.declared.gate.ChannelGate.TheVariants.{H, S, Sdg, Cx}
 use Rattle.channel_rep.specs.Gates.{GateFits}
@@ -13,17 +12,6 @@ use Rattle.channel_rep.specs.Words.{IsWord}
 use Rattle.tc_bridge.specs.Block.{as_gate, as_gates, undone, opening, highest, block, word_gates}
 use Rattle.tc_bridge.proofs.Conjugations.{gate_fits, all-append, undone_fits}
 use Rattle.tc_bridge.proofs.Blocks.{opening_is}
-
--- 1 for a T gate, else 0
-abbrev pub t_of : Gate → ℕ
-t_of g = cond (is_t g) 1 0
-
--- T-counts add up
-pub t_count-cons : (g : Gate) (gates : List Gate) → t_count_of (g ∷ gates) ≡ t_of g + t_count_of gates
-t_count-cons g gates = sum_by-cons t_of g gates
-
-pub t_count-append : (c d : List Gate) → t_count_of (c ++ d) ≡ t_count_of c + t_count_of d
-t_count-append c d = sum_by-append t_of c d
 
 -- ---- Clifford gates
 clifford_t : (g : ChannelGate) → t_of (as_gate g) ≡ 0

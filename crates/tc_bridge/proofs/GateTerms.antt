@@ -7,7 +7,7 @@ use Rattle.tc_bridge.proofs.Matrices.{Alike, ◌⊙◌, alike-sym, matrix_add, m
 use Rattle.ring_laws.proofs.Cyclotomic.{cyclotomics_laws as laws}
 use Rattle.tc_circuit.specs.Bits.{has_bit, flipped, crossed}
 use Rattle.tc_circuit.specs.Gate.{gate_table, h_entry, diagonal_entry, cx_entry}
-use Rattle.tc_circuit.proofs.Flips.{sizes}
+use Rattle.ring_laws.proofs.Sizes.{sizes}
 use Rattle.pauli_basis.specs.Products.{product_code, turns, sign_turns}
 use Rattle.pauli_basis.proofs.Small.{all, all_at, all_at2, and_left, and_right}
 use Rattle.channel_rep.specs.declared.gate.ChannelGate.{ChannelGate}

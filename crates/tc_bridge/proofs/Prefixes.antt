@@ -8,7 +8,7 @@ use Rattle.tc_circuit.specs.Model.{t_count_of}
 use Rattle.tc_circuit.specs.declared.circuit.Gate.{Gate}
 use Rattle.channel_rep.specs.Tables.{Step, ScaledTable, IsBuiltOf}
 use Rattle.tc_bridge.specs.Steps.{step_of, steps_of}
-use Rattle.tc_bridge.proofs.Counts.{t_of, t_count-cons, t_count-append}
+use Rattle.tc_circuit.proofs.Counts.{t_of, t_count-cons, t_count-append}
 
 -- the steps of two lists of gates
 steps_of-append : (c d : List Gate) → steps_of (c ++ d) ≡ steps_of c ++ steps_of d

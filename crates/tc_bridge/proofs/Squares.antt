@@ -18,7 +18,8 @@ use Rattle.tc_bridge.proofs.Appended.{gate_matrix}
 use Rattle.tc_bridge.proofs.Axes.{axis-axis}
 use Rattle.tc_bridge.proofs.Blocks.{t_is, opening_is, opened_is}
 use Rattle.tc_bridge.proofs.Conjugations.{all-append, undone_fits}
-use Rattle.tc_bridge.proofs.Counts.{t_count-append, t_count-cons, clifford_count, clifford_circuit}
+use Rattle.tc_circuit.proofs.Counts.{t_count-append, t_count-cons}
+use Rattle.tc_bridge.proofs.Counts.{clifford_count, clifford_circuit}
 use Rattle.tc_bridge.proofs.ScaledMatrices.{Equal, equal_tables, equal-sym, ◌⊚◌, mul-left, mul-right, equal_entries}
 
 -- s is t twice

@@ -11,3 +11,4 @@ pub mod Cells
 pub mod Bounds
 pub mod Same
 pub mod Built
+pub mod Counts

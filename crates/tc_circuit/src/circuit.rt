@@ -1,4 +1,5 @@
 ghost use Rattle.std.specs.Prelude.{◌≡◌, ℕ, ◌+◌, ◌^◌, ◌<◌, ◌≤◌, [], ◌∷◌, ◌++◌, length, OnOk, OnErr};
+ghost use Rattle.tc_circuit.specs.Model.{t_count_of};
 
 use std::alloc::{AllocError, Global};
 use std::marker::Model;
@@ -20,6 +21,16 @@ pub enum Gate {
     Cx(u8, u8),
 }
 
+/// How many of the gates are t or tdg.
+pub fn t_count(gates: &[Gate]) -> usize
+    ensures { result ≡ t_count_of gates.now }
+{
+    gates
+        .iter()
+        .filter(|gate| matches!(gate, Gate::T(_) | Gate::Tdg(_)))
+        .count()
+}
+
 /// Gates on one to three qubits, in the order in which they are applied.
 #[derive(Drop)]
 pub struct Circuit {
@@ -39,7 +50,7 @@ impl Model for Circuit {
 
 impl Circuit {
     ghost use Rattle.tc_circuit.specs.Gate.{Fits};
-    ghost use Rattle.tc_circuit.specs.Model.{IsCircuit, t_count_of, h_count_of};
+    ghost use Rattle.tc_circuit.specs.Model.{IsCircuit, h_count_of};
 
     /// A circuit of n qubits with no gates. It takes no memory.
     pub fn new(alloc: Global, n: u8) -> Circuit
@@ -87,13 +98,7 @@ impl Circuit {
         requires { length self.now.gates < 2 ^ 32 }
         ensures { result ≡ t_count_of self.now.gates }
     {
-        let mut count = 0;
-        for gate in &self.gates {
-            if matches!(gate, Gate::T(_) | Gate::Tdg(_)) {
-                count += 1;
-            }
-        }
-        count
+        t_count(&self.gates) as u32
     }
 
     /// How many gates are h.

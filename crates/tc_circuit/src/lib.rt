@@ -7,5 +7,5 @@ pub mod matrix;
 #[cfg(test)]
 mod tests;
 
-pub use circuit::{Circuit, Gate};
+pub use circuit::{Circuit, Gate, t_count};
 pub use matrix::Matrix;

@@ -4,7 +4,7 @@ use Rattle.tc_circuit.specs.declared.circuit.Gate.{Gate}
 use Rattle.tc_circuit.specs.Model.{IsCircuit, t_count_of}
 use Rattle.qasm_reader.specs.State.{gates_at}
 use Rattle.qasm_reader.specs.View.{gate_from, gates_with, gates_made, state}
-use Rattle.qasm_reader.proofs.Placing.{t_count-append}
+use Rattle.tc_circuit.proofs.Counts.{t_count-append}
 use Rattle.qasm_reader.proofs.Kept.{pushed_gates, pushed_count, t_count-made}
 use Rattle.qasm_reader.proofs.declare.with_gates.Goals as goal
 use Rattle.qasm_reader.proofs.declare.with_gates.Goals.{After-gates_from, After-t_count_at}

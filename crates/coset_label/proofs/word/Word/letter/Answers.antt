@@ -1,6 +1,5 @@
 use Rattle.std.proofs.Common.{◌≡◌, length, ap, arith}
-use Rattle.pauli_basis.specs.Pauli.{PauliString}
-use Rattle.coset_label.proofs.PackedWords.{letters_counted, letter_read}
+use Rattle.coset_label.proofs.PackedWords.{letters_counted, letter_read, mask_below}
 use Rattle.coset_label.proofs.word.Word.letter.Goals as goal
 
 pub overflow_sub-behind-2 : goal.overflow_sub-behind-2
@@ -10,9 +9,9 @@ overflow_sub-behind-2 c =
 pub returns-clause-code : goal.returns-clause-code
 returns-clause-code c =
     (letter_read c.self.inside.n c.self.inside.len c.self.inside.letters c.args.i c.args.self.now _ c.self.view_is c.self.invariant c.requires
-    (ap (λ (p : PauliString). p.code) c.in-Some.ensures.value)).0
+    (c.of_code.ensures.whole (mask_below c.self.inside.n _ c.self.invariant.few))).0
 
 pub returns-clause-other : goal.returns-clause-other
 returns-clause-other c =
     (letter_read c.self.inside.n c.self.inside.len c.self.inside.letters c.args.i c.args.self.now _ c.self.view_is c.self.invariant c.requires
-    (ap (λ (p : PauliString). p.code) c.in-Some.ensures.value)).1
+    (c.of_code.ensures.whole (mask_below c.self.inside.n _ c.self.invariant.few))).1

@@ -1,7 +1,7 @@
 use Rattle.std.proofs.Common.{◌≡◌, ◌*◌, ◌%◌, ◌^◌, bit_and, ◌-◌, sym, ◌∙◌, subst, ◌<◌, arith, mod-lt}
 use Rattle.std.proofs.Math.Nat.{mod-eq_of_lt}
 use Rattle.std.proofs.lemmas.Nat.{one_shl}
-use Rattle.pauli_basis.proofs.Letters.{two_bits, four_pos, masked}
+use Rattle.pauli_basis.proofs.Letters.{two_bits, codes_some, masked}
 use Rattle.pauli_basis.proofs.pauli.Pauli.of_code.Goals as goal
 
 -- the letters that are kept
@@ -12,7 +12,7 @@ pub invariant_of-result : goal.invariant_of-result
 invariant_of-result c = record {
   some = c.requires.some;
   few = c.requires.few;
-  below = subst (λ m. m < 4 ^ c.args.n) (sym (kept c)) (mod-lt c.args.code (four_pos c.args.n));
+  below = subst (λ m. m < 4 ^ c.args.n) (sym (kept c)) (mod-lt c.args.code (codes_some c.args.n));
 }
 
 pub returns-clause-code : goal.returns-clause-code
