@@ -12,6 +12,7 @@ use Rattle.channel_rep.specs.Cells.{ChannelGrid, RowWithin, cell_of, table_of}
 use Rattle.channel_rep.proofs.OneUnit.{same_by_parts}
 use Rattle.coset_label.specs.Labels.{Column, numbers_from}
 use Rattle.coset_label.specs.Scratch.{IsArranged, kept_column, cell_at, placed_cell}
+use Rattle.coset_label.proofs.ColumnLists.{cells_of_numbers}
 use Rattle.coset_label.proofs.TurnedColumns.{turned_numbers}
 use Rattle.coset_label.proofs.ColumnOrder.{turned_cells}
 
