@@ -1,5 +1,5 @@
 -- Lemmas for the crates above: the rest of a signed permutation that is a circuit's channel has that channel.
-use Rattle.std.proofs.Common.{◌≡◌, ℕ, suc, ◌^◌, ◌<◌, ◌≤◌, false, true, List, [], ◌∷◌, length, refl, ap, sym, ◌∙◌, subst, arith}
+use Rattle.std.proofs.Common.{◌≡◌, ℕ, ◌^◌, ◌<◌, ◌≤◌, false, true, List, [], ◌∷◌, length, ap, sym, ◌∙◌, subst, arith}
 use Rattle.std.specs.List.{AllByRecursion}
 use Rattle.ring_laws.specs.Matrix.{product, identity, Agree}
 use Rattle.ring_laws.specs.Cyclotomic.{cyclotomics}
@@ -18,7 +18,7 @@ use Rattle.tc_bridge.specs.Channel.{IsChannel}
 use Rattle.tc_bridge.specs.Steps.{steps_of}
 use Rattle.tc_bridge.proofs.Channels.{channel_product, same_table_channel}
 use Rattle.tc_bridge.proofs.CircuitChannels.{step_channel, circuit_channel}
-use Rattle.tc_bridge.proofs.Conjugations.{all-append, as_gates-append, undone_fits}
+use Rattle.tc_bridge.proofs.Conjugations.{all-append, as_gates-append, undone_fits, length-as_gates, length-undone}
 use Rattle.tc_bridge.proofs.Counts.{clifford_count, clifford_circuit}
 use Rattle.tc_bridge.proofs.Rotations.{turned_axis, rotation_channel}
 use Rattle.tc_bridge.proofs.Unique.{unique}
@@ -26,7 +26,7 @@ use Rattle.tc_bridge.proofs.Unitary.{unitary_circuit}
 use Rattle.clifford_rest.specs.Rest.{IsUndoGate, IsRestGate, sent_to, undo_gates, rest_of}
 use Rattle.channel_rep.specs.Conjugations.{conjugated_by}
 use Rattle.clifford_rest.proofs.Acts.{Acts, acts_circuit, acts_from_channel, channel_from_acts}
-use Rattle.tc_bridge.proofs.Codes.{conjugated_by-undone, length-undone}
+use Rattle.tc_bridge.proofs.Codes.{conjugated_by-undone}
 use Rattle.clifford_rest.proofs.Fixed.{all_stay}
 use Rattle.clifford_rest.proofs.Invertible.{IsInvertible, invertible_identity, invertible_gate, invertible_product, invertible_rotation}
 use Rattle.clifford_rest.proofs.Permutations.{sent_entry}
@@ -174,11 +174,6 @@ module _ (c : ChannelGrid) (some : 0 < c.qubits) (few : c.qubits ≤ 3) (permuta
   -- so of the rest
   pub rest_kinds : AllByRecursion IsRestGate (rest_of c)
   rest_kinds = inverse_kinds gates whole.kinds
-
-  -- as many gates of a circuit as Clifford gates
-  length-as_gates : (gates : List ChannelGate) → length (as_gates gates) ≡ length gates
-  length-as_gates [] = refl
-  length-as_gates (g ∷ gates) = ap suc (length-as_gates gates)
 
   -- it has at most 45 gates
   pub rest_short : length (rest_of c) ≤ 45

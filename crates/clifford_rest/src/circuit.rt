@@ -12,10 +12,11 @@ ghost use Rattle.clifford_rest.specs.Rest.{IsRestGate, sent_to, undo_gates, rest
 ghost use Rattle.clifford_rest.specs.State.{gates_behind};
 ghost use Rattle.channel_rep.specs.Conjugations.{conjugated_by};
 
-use crate::pauli::{SignedPauli, image_of};
+use crate::pauli::{conjugate_by, image_of};
 use crate::qubit::sweep_qubit;
 use crate::steps::QubitSweep;
 use channel_rep::{Channel, ChannelGate};
+use pauli_basis::SignedPauli;
 use std::alloc::{AllocError, Global};
 use tc_circuit::{Circuit, Gate};
 
@@ -58,7 +59,7 @@ fn image_behind(c: &Channel, gates: &[ChannelGate], code: u8) -> SignedPauli
     ensures value { result ≡ conjugated_by c.now.qubits gates.now (sent_to c.now.qubits (table_of c.now) code) }
     ensures below { result.code < 4 ^ c.now.qubits }
 {
-    image_of(c, code).conjugate_by(c.qubits(), gates)
+    conjugate_by(image_of(c, code), c.qubits(), gates)
 }
 
 /// The gates that undo qubit q of the operator of a signed permutation, with gates behind it.

@@ -2,6 +2,7 @@
 ghost use Rattle.std.specs.Prelude.{◌≡◌, ◌-◌, suc, ◌<◌, ◌≤◌, OnOk, IfSome};
 ghost use Rattle.clifford_rest.specs.Sweep.{each, clear_a, clear_b, drop_a, drop_b, first_x, put_x};
 
+use crate::pauli::has_letter;
 use crate::steps::QubitSweep;
 use channel_rep::ChannelGate;
 use std::alloc::AllocError;
@@ -12,8 +13,8 @@ impl QubitSweep {
         requires { j < self.old.qubits }
         ensures { OnOk result (self.new ≡ record self.old { sweep = clear_a self.old.qubits j self.old.sweep }) }
     {
-        self.undo_if(self.a().has_letter(3, j), ChannelGate::H(j))?;
-        self.undo_if(self.a().has_letter(2, j), ChannelGate::Sdg(j))?;
+        self.undo_if(has_letter(self.a(), 3, j), ChannelGate::H(j))?;
+        self.undo_if(has_letter(self.a(), 2, j), ChannelGate::Sdg(j))?;
         Ok(())
     }
 
@@ -22,8 +23,8 @@ impl QubitSweep {
         requires { j < self.old.qubits }
         ensures { OnOk result (self.new ≡ record self.old { sweep = clear_b self.old.qubits q j self.old.sweep }) }
     {
-        self.undo_if(self.b().has_letter(2, j), ChannelGate::Sdg(j))?;
-        self.undo_if(self.b().has_letter(3, j) && j != q, ChannelGate::H(j))?;
+        self.undo_if(has_letter(self.b(), 2, j), ChannelGate::Sdg(j))?;
+        self.undo_if(has_letter(self.b(), 3, j) && j != q, ChannelGate::H(j))?;
         Ok(())
     }
 
@@ -58,7 +59,7 @@ impl QubitSweep {
     {
         let n = self.qubits();
         for j in q + 1..n {
-            self.undo_if(self.a().has_letter(1, j), ChannelGate::Cx(q, j))?;
+            self.undo_if(has_letter(self.a(), 1, j), ChannelGate::Cx(q, j))?;
         }
         Ok(())
     }
@@ -70,7 +71,7 @@ impl QubitSweep {
     {
         let n = self.qubits();
         for j in q + 1..n {
-            self.undo_if(self.b().has_letter(1, j), ChannelGate::Cx(q, j))?;
+            self.undo_if(has_letter(self.b(), 1, j), ChannelGate::Cx(q, j))?;
         }
         Ok(())
     }
@@ -84,7 +85,7 @@ impl QubitSweep {
     {
         let n = self.qubits();
         for j in q + 1..n {
-            if self.a().has_letter(1, j) {
+            if has_letter(self.a(), 1, j) {
                 return Some(j);
             }
         }
@@ -96,7 +97,7 @@ impl QubitSweep {
         requires { q < self.old.qubits }
         ensures { OnOk result (self.new ≡ record self.old { sweep = put_x self.old.qubits q self.old.sweep }) }
     {
-        if self.a().has_letter(0, q) {
+        if has_letter(self.a(), 0, q) {
             if let Some(j) = self.lowest_x(q) {
                 self.undo(ChannelGate::Cx(j, q))?;
             }

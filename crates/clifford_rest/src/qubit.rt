@@ -4,9 +4,10 @@ ghost use Rattle.std.specs.List.{AllByRecursion};
 ghost use Rattle.channel_rep.specs.Gates.{GateFits};
 ghost use Rattle.clifford_rest.specs.Sweep.{sweep_a, sweep_b, sign_a, sign_b, sweep, qubit_gates};
 
-use crate::pauli::SignedPauli;
+use crate::pauli::is_z;
 use crate::steps::QubitSweep;
 use channel_rep::ChannelGate;
+use pauli_basis::SignedPauli;
 use std::alloc::{AllocError, Global};
 
 impl QubitSweep {
@@ -26,7 +27,7 @@ impl QubitSweep {
         requires { q < self.old.qubits }
         ensures { OnOk result (self.new ≡ record self.old { sweep = sweep_b self.old.qubits q self.old.sweep }) }
     {
-        if self.b().is_z(q) {
+        if is_z(self.b(), q) {
             return Ok(());
         }
         self.undo(ChannelGate::H(q))?;

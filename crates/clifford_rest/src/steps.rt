@@ -4,8 +4,9 @@ ghost use Rattle.std.specs.List.{AllByRecursion};
 ghost use Rattle.channel_rep.specs.Gates.{GateFits};
 ghost use Rattle.clifford_rest.specs.Sweep.{undo, undo_if, first_x, fetch_x, put_x};
 
-use crate::pauli::SignedPauli;
+use crate::pauli::conjugate;
 use channel_rep::ChannelGate;
+use pauli_basis::SignedPauli;
 use std::alloc::{AllocError, Global};
 use std::marker::Model;
 
@@ -88,8 +89,8 @@ impl QubitSweep {
         ensures { OnOk result (self.new ≡ record self.old { sweep = undo self.old.qubits gate self.old.sweep }) }
     {
         self.gates.push(gate)?;
-        self.a = self.a.conjugate(self.n, gate);
-        self.b = self.b.conjugate(self.n, gate);
+        self.a = conjugate(self.a, self.n, gate);
+        self.b = conjugate(self.b, self.n, gate);
         Ok(())
     }
 

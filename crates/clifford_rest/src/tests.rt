@@ -131,10 +131,10 @@ fn images(rt: &impl Abort, c: &Channel) -> Result<u8, Fail>
     requires permutation { IsSignedPermutation c.now }
     requires one { c.now.qubits ≡ 1 }
 {
-    let (x, x_negative) = c.image(Pauli::new(1, 1).ok_or("no X")?);
-    let (z, z_negative) = c.image(Pauli::new(1, 3).ok_or("no Z")?);
+    let x = c.image(Pauli::of_code(1, 1));
+    let z = c.image(Pauli::of_code(1, 3));
     assert!(rt; x.code() < 4 && z.code() < 4);
-    Ok(x.code() * 16 + z.code() * 4 + u8::from(x_negative) * 2 + u8::from(z_negative))
+    Ok(x.code() * 16 + z.code() * 4 + u8::from(x.is_negative()) * 2 + u8::from(z.is_negative()))
 }
 
 /// Gates h and s by the bits of a number.

@@ -21,7 +21,8 @@ use Rattle.tc_bridge.proofs.AllGates.{or_right}
 use Rattle.tc_bridge.proofs.CircuitChannels.{t_axis}
 use Rattle.tc_bridge.proofs.ScaledMatrices.{Equal, equal-sym, ◌⊚◌}
 use Rattle.tc_bridge.proofs.Appended.{gate_matrix}
-use Rattle.tc_bridge.proofs.Conjugations.{images, plain_axis, conjugated_is}
+use Rattle.tc_bridge.proofs.Conjugations.{plain_axis, conjugated_is}
+use Rattle.channel_rep.specs.Conjugations.{conjugated_by}
 
 -- a gate that fits, as a test
 abbrev fits_test : ℕ → ChannelGate → Bool
@@ -38,7 +39,7 @@ all_fit_test n (g ∷ gates) = fits_test n g && all_fit_test n gates
 -- the opening takes the Pauli to Z on its highest qubit, fits, and the block is short
 abbrev opens_at : ℕ → ℕ → Bool
 opens_at n p =
-    eqb p 0 || (let s = images n (opening n p) (record { code = p; is_negative = false }) in
+    eqb p 0 || (let s = conjugated_by n (opening n p) (record { code = p; is_negative = false }) in
     eqb s.code (z_on (highest n p)) && (not s.is_negative && (ltb (highest n p) n && (all_fit_test n (opening n p) && leb (length (block n p)) 17))))
 
 -- computed for each Pauli on one, two and three qubits
@@ -74,7 +75,7 @@ not_true false h = refl
 
 -- what is known of the opening of a Pauli
 pub record Opening (n p : ℕ) : Type 0 where
-  pub is : images n (opening n p) (record { code = p; is_negative = false }) ≡ record { code = z_on (highest n p); is_negative = false }
+  pub is : conjugated_by n (opening n p) (record { code = p; is_negative = false }) ≡ record { code = z_on (highest n p); is_negative = false }
   pub below : highest n p < n
   pub fits : AllByRecursion (GateFits n) (opening n p)
   pub short : length (block n p) ≤ 17
@@ -87,7 +88,7 @@ module _ (n : ℕ) (some : 0 < n) (few : n ≤ 3) (p : ℕ) (l : p < 4 ^ n) (d :
   -- the computed facts at one Pauli
   pub opening_is : Opening n p
   opening_is =
-      let s = images n (opening n p) (record { code = p; is_negative = false }) in
+      let s = conjugated_by n (opening n p) (record { code = p; is_negative = false }) in
       let h = or_right (eqb p 0) _ (λ k. d (eqb→eq p 0 k)) (all_at (4 ^ n) (opens_at n) (sizes (λ n. Holds (all (4 ^ n) (opens_at n))) opens_1 opens_2 opens_3 n some few) p l) in
       let h1 = and_right (eqb s.code (z_on (highest n p))) _ h in
       let h2 = and_right (not s.is_negative) _ h1 in

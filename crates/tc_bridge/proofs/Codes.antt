@@ -105,8 +105,3 @@ module _ (n : ℕ) (some : 0 < n) (few : n ≤ 3) where
 pub conjugated_code : (n : ℕ) (gates : List ChannelGate) (s t : Signed) → s.code ≡ t.code → (conjugated_by n gates s).code ≡ (conjugated_by n gates t).code
 conjugated_code n [] s t e = e
 conjugated_code n (g ∷ gates) s t e = conjugated_code n gates (conjugated n g s) (conjugated n g t) (ap (λ (k : ℕ). (image n g k).code) e)
-
--- as many inverses as gates
-pub length-undone : (gates : List ChannelGate) → length (undone gates) ≡ length gates
-length-undone [] = refl
-length-undone (g ∷ gates) = let e = length-append (undone gates) (inverse_gate g ∷ []) in omega (arith, e, length-undone gates)

@@ -1,6 +1,6 @@
 -- Lemmas for the crates above: Clifford gates move past a·I + b·P as they conjugate P, and so a gate between Clifford gates
 -- and their inverses is conjugated.
-use Rattle.std.proofs.Common.{◌≡◌, ℕ, ◌+◌, ◌^◌, ◌<◌, ◌≤◌, List, [], ◌∷◌, ◌++◌, Bool, false, T as Holds, refl, ap, sym, ◌∙◌, subst, add_comm, append_assoc}
+use Rattle.std.proofs.Common.{◌≡◌, ℕ, suc, ◌+◌, ◌^◌, ◌<◌, ◌≤◌, List, [], ◌∷◌, ◌++◌, Bool, false, T as Holds, refl, ap, sym, ◌∙◌, subst, add_comm, append_assoc, length, length-append, arith}
 use Rattle.std.specs.List.{AllByRecursion}
 use Rattle.ring_laws.specs.Ring.{power}
 use Rattle.ring_laws.specs.Cyclotomic.{Zω, cyclotomics, integer, times, negative, conjugate, ω, root2}
@@ -17,7 +17,7 @@ use Rattle.pauli_basis.proofs.Small.{all, all_at2}
 use Rattle.channel_rep.specs.declared.gate.ChannelGate.{ChannelGate}
 use Rattle.channel_rep.specs.declared.gate.ChannelGate.TheVariants.{H, S, Sdg, Cx}
 use Rattle.channel_rep.specs.Gates.{GateFits, image}
-use Rattle.channel_rep.specs.Tables.{turned_over}
+use Rattle.channel_rep.specs.Conjugations.{conjugated, conjugated_by}
 use Rattle.tc_bridge.specs.Pauli.{sign}
 use Rattle.tc_bridge.specs.Rotation.{axis, scaled_product}
 use Rattle.tc_bridge.specs.Block.{as_gate, as_gates, inverse_gate, undone, conjugated_gates}
@@ -100,19 +100,20 @@ undone_fits n (g ∷ gates) h = all-append (GateFits n) (undone gates) (inverse_
 abbrev pub signed_axis : ℕ → Zω → Zω → Signed → ℕ → ScaledMatrix
 signed_axis n a b s j = record { table = axis n a (times b (sign s.is_negative)) s.code; exponent = j }
 
--- conjugation of a Pauli with a sign, by one gate and by gates one after another
-abbrev pub signed_image : ℕ → ChannelGate → Signed → Signed
-signed_image n g s = let t = image n g s.code in record { code = t.code; is_negative = turned_over s.is_negative t.is_negative }
+-- as many gates in either form
+pub length-as_gates : (gates : List ChannelGate) → length (as_gates gates) ≡ length gates
+length-as_gates [] = refl
+length-as_gates (g ∷ gates) = ap suc (length-as_gates gates)
 
--- and by gates one after another
-abbrev pub images : ℕ → List ChannelGate → Signed → Signed
-images n [] s = s
-images n (g ∷ gates) s = images n gates (signed_image n g s)
+-- as many inverses as gates
+pub length-undone : (gates : List ChannelGate) → length (undone gates) ≡ length gates
+length-undone [] = refl
+length-undone (g ∷ gates) = let e = length-append (undone gates) (inverse_gate g ∷ []) in omega (arith, e, length-undone gates)
 
 module _ (n : ℕ) (some : 0 < n) (few : n ≤ 3) where
   -- g·(a·I ± b·P) is (a·I ± b·g·P·g†)·g
   pub gate_axis : (g : ChannelGate) → GateFits n g → (a b : Zω) (s : Signed) (j : ℕ) → s.code < 4 ^ n
-      → Equal n (scaled_product n (gate_matrix (as_gate g)) (signed_axis n a b s j)) (scaled_product n (signed_axis n a b (signed_image n g s) j) (gate_matrix (as_gate g)))
+      → Equal n (scaled_product n (gate_matrix (as_gate g)) (signed_axis n a b s j)) (scaled_product n (signed_axis n a b (conjugated n g s) j) (gate_matrix (as_gate g)))
   gate_axis g fits a b s j l =
       let t = image n g s.code in
       let u = gate_table (as_gate g) in
@@ -141,7 +142,7 @@ plain_axis n a b p j = subst (λ (x : Zω). Equal n (record { table = axis n a b
 module _ (n : ℕ) (some : 0 < n) (few : n ≤ 3) where
   -- where the Clifford gates take a Pauli to that of the center, the whole is the center with the first Pauli
   pub conjugated_is : (gates : List ChannelGate) (center : Gate) (a b : Zω) (z j : ℕ) → AllByRecursion (GateFits n) gates → Equal n (gate_matrix center) (record { table = axis n a b z; exponent = j })
-      → (s : Signed) → s.code < 4 ^ n → images n gates s ≡ record { code = z; is_negative = false } → Equal n (matrix_of n (conjugated_gates gates center)) (signed_axis n a b s j)
+      → (s : Signed) → s.code < 4 ^ n → conjugated_by n gates s ≡ record { code = z; is_negative = false } → Equal n (matrix_of n (conjugated_gates gates center)) (signed_axis n a b s j)
   conjugated_is [] center a b z j fits h s l e = gate_is n center ⊚ h ⊚ subst (λ (t : Signed). Equal n (record { table = axis n a b z; exponent = j }) (signed_axis n a b t j)) (sym e) (plain_axis n a b z j)
   conjugated_is (g ∷ gates) center a b z j fits h s l e =
       let u = gate_matrix (as_gate g) in
@@ -149,6 +150,6 @@ module _ (n : ℕ) (some : 0 < n) (few : n ≤ 3) where
       let back = as_gate (inverse_gate g) ∷ [] in
       subst (λ (c : List Gate). Equal n (matrix_of n c) (signed_axis n a b s j)) (sym (conjugated-cons g gates center)) (
       cons_is n (as_gate g) (conjugated_gates gates center ++ back)
-      ⊚ mul-right (append_is n (conjugated_gates gates center) back ⊚ mul-right (gate_is n (as_gate (inverse_gate g))) _ ⊚ mul-left v (conjugated_is gates center a b z j fits.1 h (signed_image n g s) (image-lt n some few g fits.0 s.code l) e)) u
+      ⊚ mul-right (append_is n (conjugated_gates gates center) back ⊚ mul-right (gate_is n (as_gate (inverse_gate g))) _ ⊚ mul-left v (conjugated_is gates center a b z j fits.1 h (conjugated n g s) (image-lt n some few g fits.0 s.code l) e)) u
       ⊚ mul_assoc v _ u ⊚ mul-left v (equal-sym (gate_axis n some few g fits.0 a b s j l)) ⊚ equal-sym (mul_assoc v u _)
       ⊚ mul-right (inverse_is n some few g fits.0) _ ⊚ one-mul _)

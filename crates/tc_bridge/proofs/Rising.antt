@@ -9,7 +9,7 @@ use Rattle.channel_rep.specs.declared.gate.ChannelGate.{ChannelGate}
 use Rattle.channel_rep.specs.declared.gate.ChannelGate.TheVariants.{Cx}
 use Rattle.pauli_basis.specs.Letters.{letter_of}
 use Rattle.tc_bridge.specs.Block.{as_gates, undone, inverse_gate, letter_to_z, to_z, gather, rising, highest, conjugated_gates, block, Appends}
-use Rattle.tc_bridge.proofs.Conjugations.{as_gates-append}
+use Rattle.tc_bridge.proofs.Conjugations.{as_gates-append, length-as_gates, length-undone}
 
 -- ---- lists
 rising-push : (f : ℕ → List ChannelGate) (count q : ℕ) → rising f (count + 1) q ≡ rising f count q ++ f (q + count)
@@ -22,15 +22,6 @@ rising-push f (suc count) q =
 undone-append : (c d : List ChannelGate) → undone (c ++ d) ≡ undone d ++ undone c
 undone-append [] d = sym (append-nil (undone d))
 undone-append (g ∷ c) d = ap (λ gates. gates ++ (inverse_gate g ∷ [])) (undone-append c d) ∙ append_assoc (undone d) (undone c) (inverse_gate g ∷ [])
-
--- lengths of lists
-length-as_gates : (gates : List ChannelGate) → length (as_gates gates) ≡ length gates
-length-as_gates [] = refl
-length-as_gates (g ∷ gates) = ap suc (length-as_gates gates)
-
-length-undone : (gates : List ChannelGate) → length (undone gates) ≡ length gates
-length-undone [] = refl
-length-undone (g ∷ gates) = omega (arith, length-append (undone gates) (inverse_gate g ∷ []), length-undone gates)
 
 -- at most k gates for each qubit
 length-rising : (f : ℕ → List ChannelGate) (k : ℕ) → ((q : ℕ) → length (f q) ≤ k) → (count q : ℕ) → length (rising f count q) ≤ count * k

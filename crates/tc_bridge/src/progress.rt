@@ -22,7 +22,7 @@ fn z_on(n: u8, q: u8) -> Pauli
     ensures code { result.code ≡ z_code q }
     ensures other { result.code ≢ 0 }
 {
-    Pauli::new(n, 3 << (2 * q)).unwrap()
+    Pauli::of_code(n, 3 << (2 * q))
 }
 
 /// The channel of the gates that were taken: that of the conjugation `pending` times `channel`. The next channel is made

@@ -11,6 +11,7 @@ use Rattle.channel_rep.specs.declared.gate.ChannelGate.{ChannelGate}
 use Rattle.channel_rep.specs.declared.gate.ChannelGate.TheVariants.{H, S, Sdg, Cx}
 use Rattle.channel_rep.specs.Gates.{GateFits}
 use Rattle.tc_bridge.specs.Block.{as_gate, as_gates, inverse_gate, undone, letter_to_z, to_z, highest, gather, rising, opening, block, word_gates}
+use Rattle.tc_bridge.proofs.Conjugations.{length-as_gates, length-undone}
 
 -- ---- they fit
 all_append : {X : Type 0} → (P : X → Type 0) (xs ys : List X) → AllByRecursion P xs → AllByRecursion P ys → AllByRecursion P (xs ++ ys)
@@ -108,14 +109,6 @@ short_rising f h (suc count) q = omega (arith, length-append (f q) (rising f cou
 short_opening : (n p : ℕ) → length (opening n p) ≤ 4 * n
 short_opening n p =
     omega (arith, length-append (rising (to_z p) n 0) (rising (gather (highest n p) p) n 0), short_rising (to_z p) (λ q. short_letter q (letter_of q p)) n 0, short_rising (gather (highest n p) p) (short_gather (highest n p) p) n 0)
-
-length-as_gates : (gates : List ChannelGate) → length (as_gates gates) ≡ length gates
-length-as_gates [] = refl
-length-as_gates (g ∷ gates) = ap suc (length-as_gates gates)
-
-length-undone : (gates : List ChannelGate) → length (undone gates) ≡ length gates
-length-undone [] = refl
-length-undone (g ∷ gates) = omega (arith, length-append (undone gates) (inverse_gate g ∷ []), length-undone gates)
 
 short_block : (n p : ℕ) → n ≤ 3 → length (block n p) ≤ 25
 short_block n p few =
