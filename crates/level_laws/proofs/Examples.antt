@@ -1,5 +1,6 @@
--- The first levels of one qubit, computed from the definition.
+-- The first levels of one qubit and the first turns of two, computed from the definitions.
 use Rattle.std.proofs.Common.{◌≡◌, [], ◌∷◌, refl}
+use Rattle.coset_label.specs.Order.{words_of}
 use Rattle.ring_laws.specs.Matrix.{identity, product, sum}
 use Rattle.ring_laws.specs.Ring.{power}
 use Rattle.tc_ring.specs.Surds.{root2_surd, surd_integer, surd_negative, surd_plus, surd_times}
@@ -7,6 +8,7 @@ use Rattle.pauli_basis.specs.Products.{commute, clashes, anti_sign, turns}
 use Rattle.channel_rep.specs.Tables.{signed, rotation_table}
 use Rattle.coset_label.specs.Decided.{in_one_coset}
 use Rattle.level_laws.specs.Levels.{has_word, level}
+use Rattle.level_laws.specs.Laws.{FirstTurns}
 
 -- each letter
 pub one_letter : level 1 1 ≡ (1 ∷ []) ∷ (2 ∷ []) ∷ (3 ∷ []) ∷ []
@@ -17,3 +19,8 @@ one_letter = refl
 pub two_letters : level 1 2 ≡ (1 ∷ 2 ∷ []) ∷ (1 ∷ 3 ∷ []) ∷ (2 ∷ 1 ∷ []) ∷ (2 ∷ 3 ∷ []) ∷ (3 ∷ 1 ∷ []) ∷ (3 ∷ 2 ∷ []) ∷ []
 unfolding level has_word in_one_coset signed rotation_table commute clashes anti_sign turns identity product sum power root2_surd surd_integer surd_negative surd_plus surd_times
 two_letters = refl
+
+-- turns of two qubits
+pub first_turns : FirstTurns
+unfolding commute clashes
+first_turns = record { both = refl; none = refl; apart = refl; equal = refl }
