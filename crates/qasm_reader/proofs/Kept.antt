@@ -1,12 +1,12 @@
 -- What is kept of definitions, one after another.
-use Rattle.std.proofs.Common.{◌≡◌, ℕ, zero, suc, ◌+◌, ◌-◌, ◌<◌, ◌≤◌, Bool, true, false, cond, ◌||◌, List, [], ◌∷◌, ◌++◌, Bor, length, map, take, get_or, min, Option, Some, None, arith, ap, ◌∙◌, sym, refl, subst, ⊎_elim, length-append}
+use Rattle.std.proofs.Common.{◌≡◌, ℕ, zero, suc, ◌+◌, ◌-◌, ◌<◌, ◌≤◌, Bool, true, false, cond, ◌||◌, List, [], ◌∷◌, ◌++◌, Bor, length, map, take, get_or, min, Option, Some, None, arith, ap, ◌∙◌, sym, refl, subst, length-append}
 use Rattle.std.specs.Str.{bytes_eq}
 use Rattle.std.specs.List.{list_any}
-use Rattle.std.specs.Prelude.{option_map, nat_le, IfSome}
+use Rattle.std.specs.Prelude.{option_map, nat_lt, nat_le, IfSome}
 use Rattle.std.specs.Option.{ForSome, ForNone}
 use Rattle.std.proofs.lemmas.List.{get_or_push, map-append, map_more, length-map}
 use Rattle.std.proofs.Math.ListN.{get_or-append}
-use Rattle.std.proofs.lemmas.Bool.{leb-true}
+use Rattle.std.proofs.lemmas.Bool.{leb-true, ltb-true, ltb-false}
 use Rattle.tc_circuit.specs.declared.circuit.Gate.{Gate}
 use Rattle.tc_circuit.specs.Circuit.{Gates as Made}
 use Rattle.tc_circuit.specs.Model.{IsCircuit, t_count_of}
@@ -24,7 +24,11 @@ use Rattle.qasm_reader.specs.Limits.{most_qubits, most_t_gates, most_gates_defin
 use Rattle.qasm_reader.specs.Rows.{is_bad_entry}
 use Rattle.qasm_reader.specs.Known.{Known, table, known}
 use Rattle.qasm_reader.specs.State.{State, gates_at, gate_in, gate_qubits, gates_in, place_among, with_gate}
-use Rattle.qasm_reader.specs.View.{place_of, IsPlaced, form, name_list, entries, counted_size, gates_made, size_of, size_or_nothing, count_at, gate_of, gates_of, gates_with, known_behind, IsKept, AreKeptBehind, AreKept, IsDefinedAs, IsBehind}
+use Rattle.qasm_reader.specs.Pieces.{meaning, gates_of_pieces, gates_of, AreSound as AreSoundPieces, IsMade, source_gates, IsSource}
+use Rattle.qasm_reader.specs.declared.pieces.Source.{Source}
+use Rattle.qasm_reader.specs.View.{place_of, IsPlaced, form, name_list, entries, counted_size, gates_made, size_of, size_or_nothing, count_at, gate_of, gates_with, known_behind, meanings_behind, IsKept, AreKeptBehind, AreKept, IsDefinedAs, IsBehind}
+use Rattle.qasm_reader.specs.Run.{AreTakeable, AreAddable}
+use Rattle.qasm_reader.proofs.Written.{source_is, source_narrow, made_before, made_last}
 use Rattle.qasm_reader.proofs.Placing.{t_count-at, length-at, t_count-few}
 use Rattle.qasm_reader.proofs.Places.{or_false, or_right}
 use Rattle.qasm_reader.proofs.Takeable.{AreSound, table_sound, look_up_is, sound_more, body_fits}
@@ -49,6 +53,26 @@ known-push gates (x ∷ ds) d = known-push (with_definition gates x) ds d
 pub kept-push : (gates : Gates) (ds : List Defined) (d : Defined) → AreKeptBehind gates ds → IsKept (gate_of (known_behind gates ds) d) d → AreKeptBehind gates (ds ++ d ∷ [])
 kept-push gates [] d a h = (h, tt)
 kept-push gates (x ∷ ds) d a h = (a.0, kept-push (with_definition gates x) ds d a.1 h)
+
+-- and one gate more
+pub meanings-push : (gates : Gates) (ds : List Defined) (d : Defined) → meanings_behind gates (ds ++ d ∷ []) ≡ meanings_behind gates ds ++ gate_of (known_behind gates ds) d ∷ []
+meanings-push gates [] d = refl
+meanings-push gates (x ∷ ds) d = ap (λ (l : List Known). gate_of gates x ∷ l) (meanings-push (with_definition gates x) ds d)
+
+pub meanings-length : (gates : Gates) (ds : List Defined) → length (meanings_behind gates ds) ≡ length ds
+meanings-length gates [] = refl
+meanings-length gates (d ∷ ds) = omega (arith, meanings-length (with_definition gates d) ds)
+
+-- the gates of the last definition, and of one before
+meaning_last : (ds : List Defined) (d : Defined) → meaning (meanings_behind known (ds ++ d ∷ [])) (length ds) ≡ gate_of (known_behind known ds) d
+meaning_last ds d =
+    ap (λ (l : List Known). meaning l (length ds)) (meanings-push known ds d)
+    ∙ get_or_push (meanings_behind known ds) (gate_of (known_behind known ds) d) _ (length ds) (meanings-length known ds)
+
+meaning_before : (ds : List Defined) (d : Defined) (place : ℕ) → place < length ds → meaning (meanings_behind known (ds ++ d ∷ [])) place ≡ meaning (meanings_behind known ds) place
+meaning_before ds d place h =
+    ap (λ (l : List Known). meaning l place) (meanings-push known ds d)
+    ∙ get_or-append (meanings_behind known ds) (gate_of (known_behind known ds) d ∷ []) _ place (omega (arith, h, meanings-length known ds))
 
 -- equal bytes, either way round
 bytes_swap : (a b : List ℕ) → bytes_eq a b ≡ bytes_eq b a
@@ -76,22 +100,56 @@ other_placed ds d name o e h = go o h
       omega (arith, h.0, length-append ds (d ∷ [])),
       λ x. subst (λ (o : Option Known). IsDefinedAs o (get_or (ds ++ d ∷ []) place x)) (sym stays)
           (subst (IsDefinedAs (known_behind known ds name)) (sym (get_or-append ds (d ∷ []) x place h.0)) (h.1 x)),
+      stays ∙ h.2 ∙ ap (λ (g : Known). Some g) (sym (meaning_before ds d place h.0)),
     )
 
 -- and the new one is that of the last definition
 new_placed : (ds : List Defined) (d : Defined) (name : List ℕ) → bytes_eq name d.definition.name.now ≡ true → IsKept (gate_of (known_behind known ds) d) d → IsPlaced (ds ++ d ∷ []) name (Some (length ds))
 new_placed ds d name e kept =
     let is = ap (λ (f : Gates). f name) (known-push known ds d) ∙ ap (λ (t : Bool). cond t (Some (gate_of (known_behind known ds) d)) (known_behind known ds name)) e in
-    let defined : IsDefinedAs (known_behind known (ds ++ d ∷ []) name) d = record { gate = gate_of (known_behind known ds) d; is = is; kept = kept } in
-    (omega (arith, length-append ds (d ∷ [])), λ x. subst (IsDefinedAs (known_behind known (ds ++ d ∷ []) name)) (sym (get_or_push ds d x (length ds) refl)) defined)
+    let defined : IsDefinedAs (known_behind known (ds ++ d ∷ []) name) d = record { gate = gate_of (known_behind known ds) d; is = is; kept = kept } in (
+      omega (arith, length-append ds (d ∷ [])),
+      λ x. subst (IsDefinedAs (known_behind known (ds ++ d ∷ []) name)) (sym (get_or_push ds d x (length ds) refl)) defined,
+      is ∙ ap (λ (g : Known). Some g) (sym (meaning_last ds d)),
+    )
+
+-- pieces that stand for the gates of a definition
+abbrev pub Stand : List Defined → Defined → Type 0
+Stand ds d = (gate_of (known_behind known ds) d).arity ≤ most_qubits → gates_of_pieces (meanings_behind known ds) d.pieces.items ≡ (gate_of (known_behind known ds) d).gates
+
+-- one definition more, and all are made of their pieces
+made_more : (ds : List Defined) (d : Defined) → ((place : ℕ) → place < length ds → (e : Defined) → IsMade (meanings_behind known ds) ds place (get_or ds place e))
+    → AreSoundPieces (meanings_behind known ds) ds d.pieces.items → Stand ds d
+    → (place : ℕ) → place < length (ds ++ d ∷ []) → (e : Defined) → IsMade (meanings_behind known (ds ++ d ∷ [])) (ds ++ d ∷ []) place (get_or (ds ++ d ∷ []) place e)
+made_more ds d made sound stand place h e =
+    subst (λ (gs : List Known). IsMade gs (ds ++ d ∷ []) place (get_or (ds ++ d ∷ []) place e)) (sym (meanings-push known ds d)) (go (nat_lt place (length ds)) refl)
+  where
+    gs : List Known
+    gs = meanings_behind known ds
+
+    g : Known
+    g = gate_of (known_behind known ds) d
+
+    before : place < length ds → IsMade (gs ++ g ∷ []) (ds ++ d ∷ []) place (get_or (ds ++ d ∷ []) place e)
+    before low = subst (IsMade (gs ++ g ∷ []) (ds ++ d ∷ []) place) (sym (get_or-append ds (d ∷ []) e place low)) (made_before gs ds g d (get_or ds place e) place (meanings-length known ds) low (made place low e))
+
+    last : place ≡ length ds → IsMade (gs ++ g ∷ []) (ds ++ d ∷ []) place (get_or (ds ++ d ∷ []) place e)
+    last at = subst (IsMade (gs ++ g ∷ []) (ds ++ d ∷ []) place) (sym (get_or_push ds d e place (sym at)))
+        (made_last gs ds g d place (meanings-length known ds) (get_or_push gs g _ place (meanings-length known ds ∙ sym at)) sound stand)
+
+    go : (t : Bool) → nat_lt place (length ds) ≡ t → IsMade (gs ++ g ∷ []) (ds ++ d ∷ []) place (get_or (ds ++ d ∷ []) place e)
+    go true t = before (ltb-true _ _ t)
+    go false t = last (omega (arith, ltb-false _ _ t, h, length-append ds (d ∷ [])))
 
 -- one definition more, and its place
-pub kept_more : (old new : Definitions) (d : Defined) → AreKept old → IsKept (gate_of (known_behind known old.list.items) d) d → new.list.items ≡ old.list.items ++ d ∷ []
+pub kept_more : (old new : Definitions) (d : Defined) → AreKept old → IsKept (gate_of (known_behind known old.list.items) d) d
+    → AreSoundPieces (meanings_behind known old.list.items) old.list.items d.pieces.items → Stand old.list.items d → new.list.items ≡ old.list.items ++ d ∷ []
     → PlacesMore old.places new.places d.definition.name.now (length old.list.items) → AreKept new
-kept_more old new d kept is items places =
+kept_more old new d kept is sound stand items places =
     let ds = old.list.items in
     record {
       list = subst (AreKeptBehind known) (sym items) (kept-push known ds d kept.list is);
+      made = subst (λ (l : List Defined). (place : ℕ) → place < length l → (e : Defined) → IsMade (meanings_behind known l) l place (get_or l place e)) (sym items) (made_more ds d kept.made sound stand);
       places = λ name. subst (λ (l : List Defined). IsPlaced l name (place_of new.places name)) (sym items)
           (subst (IsPlaced (ds ++ d ∷ []) name) (sym (places name)) (go name (bytes_eq name d.definition.name.now) refl));
     }
@@ -104,6 +162,7 @@ kept_more old new d kept is items places =
 pub kept_none : (new : Definitions) → new.list.items ≡ [] → new.places.entries ≡ [] → AreKept new
 kept_none new items entries = record {
   list = subst (AreKeptBehind known) (sym items) tt;
+  made = λ place h e. absurd (omega (arith, h, ap (λ (l : List Defined). length l) items));
   places = λ name. subst (λ (l : List Defined). IsPlaced l name (place_of new.places name)) (sym items) (subst (IsPlaced [] name) (sym (none name)) refl);
 }
   where
@@ -117,14 +176,9 @@ pub inserted : (old new : Places) (key : Bor (List ℕ)) (place : ℕ) (other : 
 inserted old new key place other h =
     h (record key { now = other }) ∙ ap (λ (t : Bool). cond t (Some place) (place_of old other)) (is_eq-slice_cmp key.now other ∙ bytes_swap key.now other)
 
--- a definition of what is known has its size and, where it takes few arguments, its gates
+-- a definition of what is known has its size
 pub defined_size : (o : Option Known) (d : Defined) → IsDefinedAs o d → Some d.size ≡ option_map size_of o
 defined_size o d h = ap (λ (z : Size). Some z) h.kept.size ∙ sym (ap (option_map size_of) h.is)
-
-pub defined_gates : (o : Option Known) (d : Defined) → IsDefinedAs o d → IfSome o (λ g. g.arity ≤ most_qubits) → d.gates.items ≡ gates_of o
-defined_gates o d h few =
-    let narrow : IfSome (Some h.gate) (λ g. g.arity ≤ most_qubits) = subst (λ (x : Option Known). IfSome x (λ g. g.arity ≤ most_qubits)) h.is few in
-    h.kept.gates narrow ∙ sym (ap gates_of h.is)
 
 -- the gates that are known behind definitions are sound
 pub sound_behind : (gates : Gates) (ds : List Defined) → AreSound gates → AreKeptBehind gates ds → AreSound (known_behind gates ds)
@@ -218,26 +272,39 @@ counted_exact g few =
 -- a definition that can be taken is kept
 pub kept_new : (ds : List Defined) (d : Defined) → AreKeptBehind known ds → 0 < length d.definition.names.items → length (gate_of (known_behind known ds) d).gates ≤ most_gates_defined
     → list_any (is_bad_entry (known_behind known ds) (name_list d.definition.names.items)) (entries d.definition.body.items) ≡ false
-    → d.size ≡ counted_size (gate_of (known_behind known ds) d) → (length d.definition.names.items ≤ most_qubits → d.gates.items ≡ (gate_of (known_behind known ds) d).gates)
-    → IsKept (gate_of (known_behind known ds) d) d
-kept_new ds d kept some few good size gates =
+    → d.size ≡ counted_size (gate_of (known_behind known ds) d) → IsKept (gate_of (known_behind known ds) d) d
+kept_new ds d kept some few good size =
     let names : length (name_list d.definition.names.items) ≡ length d.definition.names.items = length-map d.definition.names.items (λ (b : Bor (List ℕ)). b.now) in
     record {
       size = size ∙ counted_exact (gate_of (known_behind known ds) d) few;
-      gates = λ narrow. gates (omega (arith, narrow, names));
       some = omega (arith, some, names);
       fit = body_fits (known_behind known ds) (name_list d.definition.names.items) (entries d.definition.body.items) (kept_sound ds kept) good;
       few = few;
     }
 
--- the gates that are pushed for a name
-pub pushed_gates : (o p : Option Known) (size : Option Size) (gates : List Gate) (qs : List ℕ) → size ≡ option_map size_of o → gates ≡ gates_of p → p ≡ o → gates_with size gates qs ≡ gates_at o qs
-pushed_gates o p size gates qs a b c =
-    ap (λ (z : Option Size). gates_with z gates qs) a ∙ ap (λ (g : List Gate). gates_with (option_map size_of o) g qs) (b ∙ ap gates_of c) ∙ gates_with-is o qs
+-- the gates of a source, by the size
+pub sourced_gates : (gs : List Known) (ds : List Defined) (o : Option Known) (s : Source) (size : Option Size) (qs : List ℕ) → IsSource gs ds o s → size ≡ option_map size_of o
+    → gates_with size (source_gates gs s) qs ≡ gates_at o qs
+sourced_gates gs ds o s size qs h is =
+    ap (λ (z : Option Size). gates_with z (source_gates gs s) qs) is ∙ ap (λ (l : List Gate). gates_with (option_map size_of o) l qs) (source_is gs ds o s h) ∙ gates_with-is o qs
 
--- and their T gates
-pub pushed_count : (o : Option Known) (size : Option Size) (qs : List ℕ) (n t : ℕ) → size ≡ option_map size_of o → n ≡ min (count_at (λ z. z.t_count) size (length qs)) 18446744073709551615
-    → t + t_count_of (gates_at o qs) ≤ most_t_gates → n ≡ t_count_of (gates_at o qs)
-pushed_count o size qs n t is count few =
-    let added = t_count-at o qs ∙ ap (λ (z : Option Size). count_at (λ z. z.t_count) z (length qs)) (sym is) in
-    omega (arith, added, count, few)
+-- the gates that a statement adds are those that its form stands for
+pub added_gates : (s : State) (gs : List Known) (ds : List Defined) (p : CodeStatement) → IsBehind s p → IsSource gs ds (gate_in s.known (option_map form p.form)) p.source
+    → gates_with p.size (source_gates gs p.source) p.qubits.items ≡ gates_in s (option_map form p.form)
+added_gates s gs ds p behind source =
+    let f = option_map form p.form in
+    sourced_gates gs ds (gate_in s.known f) p.source p.size p.qubits.items source behind.size ∙ ap (gates_at (gate_in s.known f)) behind.qubits
+
+-- the gates of a statement that can be taken can be added
+pub addable : (s : State) (gs : List Known) (ds : List Defined) (p : CodeStatement) → AreTakeable s (option_map form p.form) → IsBehind s p → IsSource gs ds (gate_in s.known (option_map form p.form)) p.source
+    → AreAddable s gs ds p.source p.size p.qubits.items
+addable s gs ds p t behind source =
+    let f = option_map form p.form in
+    let same = added_gates s gs ds p behind source in
+    record {
+      narrow = source_narrow gs ds (gate_in s.known f) p.source source t.1;
+      some = t.0;
+      fit = subst (IsCircuit s.qubits) (sym same) t.2;
+      few = subst (λ (l : List Gate). t_count_of s.gates + t_count_of l ≤ most_t_gates) (sym same) t.3;
+      counted = ap t_count_of same ∙ t_count-behind s p behind;
+    }

@@ -33,6 +33,7 @@ pub mod Cut
 pub mod Order
 pub mod Places
 pub mod Takeable
+pub mod Written
 pub mod Kept
 pub mod Twins
 pub mod Outcomes

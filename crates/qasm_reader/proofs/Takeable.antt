@@ -247,7 +247,7 @@ one_of true xs ys a b = a
 one_of false xs ys a b = b
 
 -- the gates of a turn fit one qubit
-turn_fits : (j : ℕ) → IsCircuit 1 (turn j)
+pub turn_fits : (j : ℕ) → IsCircuit 1 (turn j)
 turn_fits j =
     one_of (j == 1) _ _ (omega arith, tt)
     (one_of (j == 2) _ _ (omega arith, tt)

@@ -9,5 +9,6 @@ pub mod Within
 pub mod Read
 pub mod Halves
 pub mod Parse
+pub mod Pieces
 pub mod View
 pub mod Run

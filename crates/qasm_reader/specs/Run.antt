@@ -1,5 +1,5 @@
 -- What the private functions say of a scan: one statement taken, and all of them.
-use Rattle.std.specs.Prelude.{◌≡◌, ◌+◌, ◌<◌, ◌≤◌, false, List, length, map, Option, Some, None, Ok, Err, IfSome}
+use Rattle.std.specs.Prelude.{◌≡◌, ℕ, ◌+◌, ◌<◌, ◌≤◌, false, List, length, map, Option, Some, None, Ok, Err, IfSome}
 use Rattle.tc_circuit.specs.Model.{IsCircuit, t_count_of}
 use Rattle.qasm_reader.specs.declared.fault.ReadFault.{ReadFault}
 use Rattle.qasm_reader.specs.declared.fault.ReadFault.TheVariants.{Refused, Memory}
@@ -13,7 +13,12 @@ use Rattle.qasm_reader.specs.Limits.{most_qubits, most_t_gates, most_gates_defin
 use Rattle.qasm_reader.specs.Refusals.{number_of}
 use Rattle.qasm_reader.specs.Rows.{Statement, has_bad_body, row_of}
 use Rattle.qasm_reader.specs.Read.{place_of, scan}
-use Rattle.qasm_reader.specs.View.{state, AreKept}
+use Rattle.qasm_reader.specs.View.{gates_with, count_at, state, AreKept}
+use Rattle.qasm_reader.specs.Known.{Known}
+use Rattle.qasm_reader.specs.Pieces.{source_gates, IsNarrow}
+use Rattle.qasm_reader.specs.declared.gates.Size.{Size}
+use Rattle.qasm_reader.specs.declared.pieces.Source.{Source}
+use Rattle.qasm_reader.specs.declared.scan.Defined.{Defined}
 
 -- a statement with its form
 abbrev pub statement_at : List Lexeme → Statement
@@ -34,6 +39,14 @@ IsTakeable s (Some (Define name names body)) = (0 < length names) × (has_bad_bo
 IsTakeable s (Some (Apply name args)) = AreTakeable s (Some (Apply name args))
 IsTakeable s (Some (Turn r a)) = AreTakeable s (Some (Turn r a))
 IsTakeable s other = Unit {0}
+
+-- what is relied on where the gates of a source, of a gate of this size, are added on these qubits
+pub record AreAddable (s : State) (gs : List Known) (ds : List Defined) (source : Source) (size : Option Size) (qs : List ℕ) : Type 0 where
+  pub narrow : IsNarrow gs ds source
+  pub some : 0 < s.qubits
+  pub fit : IsCircuit s.qubits (gates_with size (source_gates gs source) qs)
+  pub few : t_count_of s.gates + t_count_of (gates_with size (source_gates gs source) qs) ≤ most_t_gates
+  pub counted : t_count_of (gates_with size (source_gates gs source) qs) ≡ count_at (λ z. z.t_count) size (length qs)
 
 -- no row applies to the statement, and this holds behind it
 abbrev pub Takes : State → List Lexeme → Scan → Type 0

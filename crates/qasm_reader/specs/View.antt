@@ -25,11 +25,10 @@ use Rattle.qasm_reader.specs.declared.scan.Register.{Register as CodeRegister}
 use Rattle.qasm_reader.specs.declared.scan.Scan.{Scan as CodeScan}
 use Rattle.qasm_reader.specs.State.{Register, State, gate_in, gate_qubits, expanded, defined, with_gate}
 use Rattle.qasm_reader.specs.Rows.{Statement, has_bad_body}
-use Rattle.qasm_reader.specs.Limits.{most_qubits, most_gates_defined}
+use Rattle.qasm_reader.specs.Limits.{most_gates_defined}
 use denote.Ref.{Bor}
-use Rattle.qasm_reader.specs.declared.definitions.GateSource.{GateSource}
-use Rattle.qasm_reader.specs.declared.definitions.GateSource.TheVariants.{Name, Angle}
-use Rattle.qasm_reader.specs.Known.{Known, known, turned}
+use Rattle.qasm_reader.specs.Known.{Known, known}
+use Rattle.qasm_reader.specs.Pieces.{meaning, IsMade, IsSource}
 use Rattle.qasm_reader.specs.Lexemes.{Lexeme}
 use Rattle.qasm_reader.specs.Forms.{Argument, shape, Rotation, Entry, Bar, Call, Spin, Form, Include, Qreg, Creg, Barrier, Apply, Turn, Define}
 
@@ -99,6 +98,11 @@ abbrev pub known_behind : (List ℕ → Option Known) → List Defined → List 
 known_behind known [] = known
 known_behind known (d ∷ ds) = known_behind (with_gate d.definition.name.now (gate_of known d) known) ds
 
+-- and these gates, in order of their definitions
+abbrev pub meanings_behind : (List ℕ → Option Known) → List Defined → List Known
+meanings_behind known [] = []
+meanings_behind known (d ∷ ds) = gate_of known d ∷ meanings_behind (with_gate d.definition.name.now (gate_of known d) known) ds
+
 -- what a scan has found so far
 abbrev pub state : CodeScan → State
 state s = record {
@@ -111,11 +115,9 @@ state s = record {
   count = s.count;
 }
 
--- what is kept of a defined gate is the gate's: its size, and its gates where it can be applied to qubits; it takes an argument,
--- its gates fit its arguments, and they are few
+-- the size that is kept of a defined gate is the gate's; it takes an argument, its gates fit its arguments, and they are few
 pub record IsKept (g : Known) (d : Defined) : Type 0 where
   pub size : d.size ≡ size_of g
-  pub gates : g.arity ≤ most_qubits → d.gates.items ≡ g.gates
   pub some : 0 < g.arity
   pub fit : IsCircuit g.arity g.gates
   pub few : length g.gates ≤ most_gates_defined
@@ -137,11 +139,12 @@ place_of places name = get_by (λ k. slice_cmp nat_cmp name k.now) places
 -- the place is that of the definition of the known gate; without one the gate is that of the table
 abbrev pub IsPlaced : List Defined → List ℕ → Option ℕ → Type 0
 IsPlaced ds name None = known_behind known ds name ≡ known name
-IsPlaced ds name (Some place) = (place < length ds) × ((d : Defined) → IsDefinedAs (known_behind known ds name) (get_or ds place d))
+IsPlaced ds name (Some place) = (place < length ds) × ((d : Defined) → IsDefinedAs (known_behind known ds name) (get_or ds place d)) × (known_behind known ds name ≡ Some (meaning (meanings_behind known ds) place))
 
--- and so it is of all definitions, and their places are noted
+-- and so it is of all definitions, their pieces stand for their gates, and their places are noted
 pub record AreKept (definitions : Definitions) : Type 0 where
   pub list : AreKeptBehind known definitions.list.items
+  pub made : (place : ℕ) → place < length definitions.list.items → (d : Defined) → IsMade (meanings_behind known definitions.list.items) definitions.list.items place (get_or definitions.list.items place d)
   pub places : (name : List ℕ) → IsPlaced definitions.list.items name (place_of definitions.places name)
 
 abbrev pub statement_of : CodeStatement → Statement
@@ -169,16 +172,6 @@ abbrev pub count_at : (Size → ℕ) → Option Size → ℕ → ℕ
 count_at count None qubits = 0
 count_at count (Some size) qubits = times size.arity (count size) qubits
 
--- the gate that this is, if it is known
-abbrev pub gate_from : (List ℕ → Option Known) → GateSource → Option Known
-gate_from known (Name name) = known name.now
-gate_from known (Angle value) = turned value
-
--- the gates that a known gate stands for
-abbrev pub gates_of : Option Known → List Gate
-gates_of None = []
-gates_of (Some g) = g.gates
-
 -- these gates on these qubits, where the gate that stands for them has this size, if it is known
 abbrev pub gates_with : Option Size → List Gate → List ℕ → List Gate
 gates_with None gates qs = []
@@ -190,3 +183,7 @@ pub record IsBehind (s : State) (p : CodeStatement) : Type 0 where
   pub qubits : p.qubits.items ≡ gate_qubits s (option_map form p.form)
   pub bad : p.has_bad_body ≡ has_bad_body s (option_map form p.form)
   pub body : p.body ≡ counted_size (gate_defined s (option_map form p.form))
+
+-- the source of a statement's gate is that of the gate that its form applies, behind these definitions
+abbrev pub HasSource : Definitions → (List ℕ → Option Known) → CodeStatement → Type 0
+HasSource definitions known_then p = IsSource (meanings_behind known definitions.list.items) definitions.list.items (gate_in known_then (option_map form p.form)) p.source

@@ -1,20 +1,22 @@
 // The bodies of definitions: whether they are good, how many gates they stand for, and these gates.
-ghost use Rattle.std.specs.Prelude.{◌≡◌, ◌≤◌, ◌++◌, ℕ, ◌||◌, not, List, false, length, map, IfOk, OnOk, Option, option_map};
+ghost use Rattle.std.specs.Prelude.{◌≡◌, ◌<◌, ◌≤◌, ◌++◌, ◌∷◌, ℕ, ◌||◌, not, List, [], false, length, map, slice_index, IfOk, OnOk, Option, option_map};
 ghost use Rattle.std.specs.List.{list_any, prefix_len};
 ghost use Rattle.std.specs.Str.{bytes_eq};
 ghost use Rattle.tc_circuit.specs.Model.{t_count_of};
 ghost use Rattle.qasm_reader.specs.Limits.{most_qubits, most_gates_defined};
 ghost use Rattle.qasm_reader.specs.Known.{known};
-ghost use Rattle.qasm_reader.specs.State.{place_among, placed, entry_gates, defined};
+ghost use Rattle.qasm_reader.specs.State.{place_among, entry_gates, defined};
+ghost use Rattle.qasm_reader.specs.declared.pieces.Piece.TheVariants.{One};
+ghost use Rattle.qasm_reader.specs.Pieces.{image, places_of, meaning, source_gates, IsNarrow, Adds};
 ghost use Rattle.qasm_reader.specs.Rows.{is_among, has_twin_names, has_stranger, is_bad_call, is_bad_entry};
-ghost use Rattle.qasm_reader.specs.View.{size_or_nothing, name_list, names, entry, entries, known_behind, counted_size, AreKept};
+ghost use Rattle.qasm_reader.specs.View.{size_or_nothing, name_list, names, entry, entries, known_behind, meanings_behind, counted_size, AreKept};
 
-use crate::circuits::placed;
-use crate::definitions::{gates_by_name, gates_by_value, size_by_name, size_by_value};
+use crate::definitions::{found_by_name, found_by_value, size_by_name, size_by_value};
 use crate::finding::{add_name, contains_name};
 use crate::forms::{Definition, Entry};
 use crate::gates::Size;
 use crate::limits::MOST_GATES_DEFINED;
+use crate::pieces::{Piece, Places, Source, image, piece_image};
 use crate::scan::Definitions;
 use std::alloc::{AllocError, Global};
 use std::collections::BTreeSet;
@@ -174,32 +176,101 @@ fn place_among(list: &[&[u8]], name: &[u8]) -> u8
     len_before(list, name) as u8
 }
 
-/// The places of names among few names.
-fn places_among(alloc: Global, list: &[&[u8]], args: &[&[u8]]) -> Result<Vec<u8>, AllocError>
+/// The place of the argument of a number among few names, or 0 where there is none.
+fn place_of_argument(list: &[&[u8]], args: &[&[u8]], number: usize) -> u8
     requires { length list.now ≤ most_qubits }
-    ensures { IfOk result (λ v. v.items ≡ map (place_among (name_list list.now)) (name_list args.now)) }
+    ensures { result ≡ slice_index (map (place_among (name_list list.now)) (name_list args.now)) number }
 {
-    let mut places = Vec::with_capacity(alloc, args.len())?;
-    for name in args {
-        places.push(place_among(list, *name))?;
+    if number < args.len() {
+        place_among(list, args[number])
+    } else {
+        0
     }
-    Ok(places)
 }
 
-/// Adds gates on the qubits in place of the numbers of their arguments.
-fn push_placed(found: &mut Vec<Gate>, gates: &[Gate], qubits: &[u8]) -> Result<(), AllocError>
-    ensures { OnOk result (found.new.items ≡ found.old.items ++ map (placed qubits.now) gates.now) }
+/// The places of the first three arguments among few names.
+fn places_among(list: &[&[u8]], args: &[&[u8]]) -> Places
+    requires { length list.now ≤ most_qubits }
+    ensures { result ≡ places_of (map (place_among (name_list list.now)) (name_list args.now)) }
+{
+    Places {
+        first: place_of_argument(list, args, 0),
+        second: place_of_argument(list, args, 1),
+        third: place_of_argument(list, args, 2),
+    }
+}
+
+/// The place of a name among few names, as that of the first argument.
+fn place_alone(list: &[&[u8]], name: &[u8]) -> Places
+    requires { length list.now ≤ most_qubits }
+    ensures { result ≡ places_of (place_among (name_list list.now) name.now ∷ []) }
+{
+    Places {
+        first: place_among(list, name),
+        second: 0,
+        third: 0,
+    }
+}
+
+/// Adds gates on the places, each as a piece.
+fn push_gates(pieces: &mut Vec<Piece>, gates: &[Gate], places: Places) -> Result<(), AllocError>
+    ensures { OnOk result (pieces.new.items ≡ pieces.old.items ++ map (λ g. One (image places g)) gates.now) }
 {
     for gate in gates {
-        found.push(placed(qubits, *gate))?;
+        pieces.push(Piece::One(image(places, *gate)))?;
     }
     Ok(())
 }
 
+/// Adds the gates of the definition at a place, on places: a definition of one piece is this piece, so that no chain of them is
+/// walked when its gates are written, and one of none is nothing.
+fn push_definition<'a>(
+    pieces: &mut Vec<Piece>,
+    list: &Definitions<'a>,
+    place: usize,
+    places: Places,
+) -> Result<(), AllocError>
+    requires kept { AreKept list.now }
+    requires within { place < length list.now.list.items }
+    requires narrow { (meaning (meanings_behind known list.now.list.items) place).arity ≤ most_qubits }
+    ensures { OnOk result (Adds (meanings_behind known list.now.list.items) list.now.list.items pieces.old.items (map (image places) (meaning (meanings_behind known list.now.list.items) place).gates) pieces.new.items) }
+{
+    match list.list[place].pieces.as_slice() {
+        [] => Ok(()),
+        [piece] => {
+            pieces.push(piece_image(places, *piece))?;
+            Ok(())
+        }
+        _ => {
+            pieces.push(Piece::Call(place, places))?;
+            Ok(())
+        }
+    }
+}
+
+/// Adds the gates of a source on places.
+fn push_source<'a>(
+    pieces: &mut Vec<Piece>,
+    list: &Definitions<'a>,
+    source: Source,
+    places: Places,
+) -> Result<(), AllocError>
+    requires kept { AreKept list.now }
+    requires narrow { IsNarrow (meanings_behind known list.now.list.items) list.now.list.items source }
+    ensures { OnOk result (Adds (meanings_behind known list.now.list.items) list.now.list.items pieces.old.items (map (image places) (source_gates (meanings_behind known list.now.list.items) source)) pieces.new.items) }
+{
+    match source {
+        Source::Listed(gates) => {
+            push_gates(pieces, gates, places)?;
+            Ok(())
+        }
+        Source::Defined(place) => push_definition(pieces, list, place, places),
+    }
+}
+
 /// Adds the gates of an entry.
 fn push_entry<'a>(
-    alloc: Global,
-    found: &mut Vec<Gate>,
+    pieces: &mut Vec<Piece>,
     list: &Definitions<'a>,
     among: &[&'a [u8]],
     line: &Entry<'a>,
@@ -207,36 +278,35 @@ fn push_entry<'a>(
     requires kept { AreKept list.now }
     requires narrow { length among.now ≤ most_qubits }
     requires good { is_bad_entry (known_behind known list.now.list.items) (name_list among.now) (entry line.now) ≡ false }
-    ensures { OnOk result (found.new.items ≡ found.old.items ++ entry_gates (known_behind known list.now.list.items) (name_list among.now) (entry line.now)) }
+    ensures { OnOk result (Adds (meanings_behind known list.now.list.items) list.now.list.items pieces.old.items (entry_gates (known_behind known list.now.list.items) (name_list among.now) (entry line.now)) pieces.new.items) }
 {
     match line {
         Entry::Barrier(_) => Ok(()),
         Entry::Call(name, args) => {
-            let places = places_among(alloc, among, args)?;
-            push_placed(found, gates_by_name(list, name), &places)
+            let places = places_among(among, args);
+            push_source(pieces, list, found_by_name(list, name).source, places)
         }
         Entry::Spin(rotation, name) => {
-            let place = place_among(among, name);
-            push_placed(found, gates_by_value(rotation.value), &[place])
+            let places = place_alone(among, name);
+            push_source(pieces, list, found_by_value(rotation.value).source, places)
         }
     }
 }
 
-/// The gates of a definition, on the places of its names, where there is room for so many.
-pub fn gates_defined<'a>(
+/// The pieces of a definition, on the places of its names.
+pub fn pieces_of_definition<'a>(
     alloc: Global,
     list: &Definitions<'a>,
     definition: &Definition<'a>,
-    room: usize,
-) -> Result<Vec<Gate>, AllocError>
+) -> Result<Vec<Piece>, AllocError>
     requires kept { AreKept list.now }
     requires narrow { length definition.now.names.items ≤ most_qubits }
     requires good { list_any (is_bad_entry (known_behind known list.now.list.items) (name_list definition.now.names.items)) (entries definition.now.body.items) ≡ false }
-    ensures { IfOk result (λ v. v.items ≡ (defined (known_behind known list.now.list.items) (name_list definition.now.names.items) (entries definition.now.body.items)).gates) }
+    ensures { IfOk result (λ v. Adds (meanings_behind known list.now.list.items) list.now.list.items [] (defined (known_behind known list.now.list.items) (name_list definition.now.names.items) (entries definition.now.body.items)).gates v.items) }
 {
-    let mut gates = Vec::with_capacity(alloc, room)?;
+    let mut pieces = Vec::new(alloc);
     for line in &definition.body {
-        push_entry(alloc, &mut gates, list, &definition.names, line)?;
+        push_entry(&mut pieces, list, &definition.names, line)?;
     }
-    Ok(gates)
+    Ok(pieces)
 }

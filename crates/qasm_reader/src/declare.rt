@@ -1,28 +1,30 @@
 // What a statement adds to the scan.
-ghost use Rattle.std.specs.Prelude.{◌≡◌, ◌+◌, ◌<◌, ◌≤◌, true, false, [], ◌∷◌, ◌++◌, length, IfOk, IfSome, Option, option_map};
+ghost use Rattle.std.specs.Prelude.{◌≡◌, ◌+◌, ◌<◌, ◌≤◌, true, false, [], ◌∷◌, ◌++◌, length, IfOk, Option, option_map};
 ghost use Rattle.std.specs.List.{list_any};
 ghost use Rattle.qasm_reader.specs.Forms.{Define};
 ghost use Rattle.qasm_reader.specs.Known.{known};
 ghost use Rattle.qasm_reader.specs.Rows.{is_bad_entry};
 ghost use Rattle.std.specs.Option.{ForSome};
-ghost use Rattle.tc_circuit.specs.Model.{IsCircuit, t_count_of};
-ghost use Rattle.qasm_reader.specs.Limits.{most_qubits, most_t_gates, most_statements};
-ghost use Rattle.qasm_reader.specs.State.{value, start, with_name, gates_at, defined, declared, after};
-ghost use Rattle.qasm_reader.specs.Run.{IsTakeable};
-ghost use Rattle.qasm_reader.specs.View.{form, name_list, entries, size_of, counted_size, gate_from, known_behind, gates_made, IsBehind, AreKept, state};
+ghost use Rattle.qasm_reader.specs.Limits.{most_qubits, most_statements};
+ghost use Rattle.qasm_reader.specs.State.{value, start, with_name, defined, declared, after};
+ghost use Rattle.qasm_reader.specs.Run.{IsTakeable, AreAddable};
+ghost use Rattle.qasm_reader.specs.View.{form, name_list, entries, counted_size, gates_with, known_behind, meanings_behind, gates_made, IsBehind, HasSource, AreKept, state};
+ghost use Rattle.qasm_reader.specs.Pieces.{source_gates, gates_of_pieces, AreSound};
 
-use crate::bodies::gates_defined;
+use crate::bodies::pieces_of_definition;
 use crate::circuits::{push_gates, t_count_at};
-use crate::definitions::{GateSource, gates_from, push_definition};
+use crate::definitions::push_definition;
 use crate::finding::{add_name, small_value};
 use crate::forms::{Definition, Form};
 use crate::gates::Size;
 use crate::limits::MOST_QUBITS;
+use crate::pieces::{Piece, Source};
 use crate::scan::{Defined, Definitions, Register, Scan};
 use crate::statements::Statement;
+use crate::writing::gates_from;
 use std::alloc::{AllocError, Global};
 use std::collections::{BTreeMap, BTreeSet};
-use tc_circuit::{Circuit, Gate};
+use tc_circuit::Circuit;
 
 /// Before the first statement.
 pub fn new_scan<'a>(alloc: Global) -> Scan<'a>
@@ -99,23 +101,19 @@ fn circuit_so_far(alloc: Global, n: u8, circuit: Option<Circuit>) -> Circuit
     }
 }
 
-/// The gates of a gate, which may be known, on these qubits more.
+/// The gates of a gate of this size, which may be known, on these qubits more.
 fn with_gates<'a>(
     alloc: Global,
     scan: Scan<'a>,
-    source: GateSource<'a>,
+    source: Source,
     size: Option<Size>,
     qubits: &[u8],
 ) -> Result<Scan<'a>, AllocError>
     requires kept { AreKept scan.definitions }
-    requires is { size ≡ option_map size_of (gate_from (state scan).known source) }
-    requires narrow { IfSome (gate_from (state scan).known source) (λ g. g.arity ≤ most_qubits) }
-    requires some { 0 < scan.qubits }
-    requires fit { IsCircuit scan.qubits (gates_at (gate_from (state scan).known source) qubits.now) }
-    requires few { t_count_of (state scan).gates + t_count_of (gates_at (gate_from (state scan).known source) qubits.now) ≤ most_t_gates }
+    requires addable { AreAddable (state scan) (meanings_behind known scan.definitions.list.items) scan.definitions.list.items source size qubits.now }
     ensures value { IfOk result (λ s. state s ≡ record (state scan.entry) {
       began = true;
-      gates = (state scan.entry).gates ++ gates_at (gate_from (state scan.entry).known source.entry) qubits.now;
+      gates = (state scan.entry).gates ++ gates_with size (source_gates (meanings_behind known scan.entry.definitions.list.items) source) qubits.now;
     }) }
     ensures kept { IfOk result (λ s. s.definitions ≡ scan.entry.definitions) }
 {
@@ -129,7 +127,8 @@ fn with_gates<'a>(
         count,
     } = scan;
     let mut circuit = circuit_so_far(alloc, n, circuit);
-    push_gates(&mut circuit, size, gates_from(&definitions, source), qubits)?;
+    let gates = gates_from(alloc, &definitions, source)?;
+    push_gates(&mut circuit, size, &gates, qubits)?;
     Ok(Scan {
         registers,
         names,
@@ -141,19 +140,19 @@ fn with_gates<'a>(
     })
 }
 
-/// The gates of a definition that are kept: all, if it has at most three names; there are so many.
-fn gates_kept<'a>(
+/// The pieces of a definition that are kept: all, if it has at most three names.
+fn keep_pieces<'a>(
     alloc: Global,
     list: &Definitions<'a>,
     definition: &Definition<'a>,
-    room: usize,
-) -> Result<Vec<Gate>, AllocError>
+) -> Result<Vec<Piece>, AllocError>
     requires kept { AreKept list.now }
     requires good { list_any (is_bad_entry (known_behind known list.now.list.items) (name_list definition.now.names.items)) (entries definition.now.body.items) ≡ false }
-    ensures { IfOk result (λ v. length definition.now.names.items ≤ most_qubits → v.items ≡ (defined (known_behind known list.now.list.items) (name_list definition.now.names.items) (entries definition.now.body.items)).gates) }
+    ensures sound { IfOk result (λ v. AreSound (meanings_behind known list.now.list.items) list.now.list.items v.items) }
+    ensures gates { IfOk result (λ v. length definition.now.names.items ≤ most_qubits → gates_of_pieces (meanings_behind known list.now.list.items) v.items ≡ (defined (known_behind known list.now.list.items) (name_list definition.now.names.items) (entries definition.now.body.items)).gates) }
 {
     if definition.names.len() <= usize::from(MOST_QUBITS) {
-        gates_defined(alloc, list, definition, room)
+        pieces_of_definition(alloc, list, definition)
     } else {
         Ok(Vec::new(alloc))
     }
@@ -172,12 +171,12 @@ fn with_definition<'a>(
     ensures value { IfOk result (λ s. state s ≡ declared (state scan.entry) (Some (Define definition.entry.name.now (name_list definition.entry.names.items) (entries definition.entry.body.items)))) }
     ensures kept { IfOk result (λ s. AreKept s.definitions) }
 {
-    let gates = gates_kept(alloc, &scan.definitions, &definition, size.length)?;
+    let pieces = keep_pieces(alloc, &scan.definitions, &definition)?;
     let mut scan = scan;
     let defined = Defined {
         definition,
         size,
-        gates,
+        pieces,
     };
     push_definition(&mut scan.definitions, defined)?;
     Ok(scan)
@@ -192,6 +191,7 @@ fn with_form<'a>(
     requires kept { AreKept scan.definitions }
     requires fits { IsTakeable (state scan) (option_map form statement.form) }
     requires behind { IsBehind (state scan) statement }
+    requires source { HasSource scan.definitions (state scan).known statement }
     ensures value { IfOk result (λ s. state s ≡ declared (state scan.entry) (option_map form statement.entry.form)) }
     ensures kept { IfOk result (λ s. AreKept s.definitions) }
 {
@@ -199,6 +199,7 @@ fn with_form<'a>(
         lexemes: _,
         form,
         size,
+        source,
         qubits,
         has_bad_body: _,
         body,
@@ -206,18 +207,8 @@ fn with_form<'a>(
     match form {
         Some(Form::Qreg(name, digits)) => with_qreg(scan, name, digits),
         Some(Form::Creg(name, _)) => with_creg(scan, name),
-        Some(Form::Apply(name, _)) => {
-            with_gates(alloc, scan, GateSource::Name(name), size, &qubits)
-        }
-        Some(Form::Turn(rotation, _)) => {
-            with_gates(
-                alloc,
-                scan,
-                GateSource::Angle(rotation.value),
-                size,
-                &qubits,
-            )
-        }
+        Some(Form::Apply(_, _)) => with_gates(alloc, scan, source, size, &qubits),
+        Some(Form::Turn(_, _)) => with_gates(alloc, scan, source, size, &qubits),
         Some(Form::Define(definition)) => with_definition(alloc, scan, definition, body),
         _ => Ok(scan),
     }
@@ -232,6 +223,7 @@ pub fn with_statement<'a>(
     requires kept { AreKept scan.definitions }
     requires fits { IsTakeable (state scan) (option_map form statement.form) }
     requires behind { IsBehind (state scan) statement }
+    requires source { HasSource scan.definitions (state scan).known statement }
     requires short { scan.count < most_statements }
     ensures value { IfOk result (λ s. state s ≡ after (state scan.entry) (option_map form statement.entry.form)) }
     ensures kept { IfOk result (λ s. AreKept s.definitions) }

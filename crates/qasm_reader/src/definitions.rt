@@ -1,13 +1,17 @@
 // The gates that are known behind definitions.
-ghost use Rattle.std.specs.Prelude.{◌≡◌, ◌≤◌, ◌++◌, ◌∷◌, [], ℕ, List, Some, cond, OnOk, IfSome, IfNone, option_map};
+ghost use Rattle.std.specs.Prelude.{◌≡◌, ◌≤◌, ◌++◌, ◌∷◌, [], ℕ, List, None, Some, cond, OnOk, IfSome, IfNone, option_map};
 ghost use Rattle.std.specs.Str.{bytes_eq};
-ghost use Rattle.qasm_reader.specs.Limits.{most_qubits};
 ghost use Rattle.qasm_reader.specs.Known.{known, turned};
-ghost use Rattle.qasm_reader.specs.View.{size_of, gate_of, gate_from, gates_of, place_of, IsKept, known_behind, AreKept, IsDefinedAs, known_gate};
+ghost use Rattle.qasm_reader.specs.View.{size_of, gate_of, place_of, IsPlaced, IsKept, known_behind, meanings_behind, AreKept, IsDefinedAs, known_gate};
+ghost use Rattle.qasm_reader.specs.Limits.{most_qubits};
+ghost use Rattle.qasm_reader.specs.Pieces.{gates_of, gates_of_pieces, AreSound, IsSource};
+ghost use Rattle.qasm_reader.specs.Known.{Known as KnownGate};
+ghost use Rattle.qasm_reader.specs.declared.scan.Defined.{Defined as DefinedGate};
 ghost use Rattle.tc_circuit.specs.Model.{t_count_of};
 
 use crate::circuits::t_count;
 use crate::gates::{Known, Size, known_by_name, known_by_value};
+use crate::pieces::Source;
 use crate::scan::{Defined, Definitions};
 use qasm_angle::AngleValue;
 use std::alloc::AllocError;
@@ -15,17 +19,14 @@ use std::collections::BTreeMap;
 use tc_circuit::Gate;
 
 /// The place of the definition of the name, if there is one.
-fn place_of<'a>(places: &BTreeMap<&'a [u8], usize>, name: &'a [u8]) -> Option<usize>
+pub fn place_of<'a>(places: &BTreeMap<&'a [u8], usize>, name: &'a [u8]) -> Option<usize>
     ensures { result ≡ place_of places.now name.now }
 {
     places.get(&name).copied()
 }
 
 /// The definition of the gate of the name, if it was defined.
-pub fn definition_of<'b, 'a>(
-    list: &'b Definitions<'a>,
-    name: &'a [u8],
-) -> Option<&'b Defined<'a>>
+pub fn definition_of<'b, 'a>(list: &'b Definitions<'a>, name: &'a [u8]) -> Option<&'b Defined<'a>>
     requires { AreKept list.now }
     ensures none { IfNone result (known_behind known list.now.list.items name.now ≡ known name.now) }
     ensures some { IfSome result (λ d. IsDefinedAs (known_behind known list.now.list.items name.now) d.now) }
@@ -55,6 +56,8 @@ pub fn push_definition<'a>(
 ) -> Result<(), AllocError>
     requires kept { AreKept list.old }
     requires fits { IsKept (gate_of (known_behind known list.old.list.items) defined) defined }
+    requires sound { AreSound (meanings_behind known list.old.list.items) list.old.list.items defined.pieces.items }
+    requires gates { (gate_of (known_behind known list.old.list.items) defined).arity ≤ most_qubits → gates_of_pieces (meanings_behind known list.old.list.items) defined.pieces.items ≡ (gate_of (known_behind known list.old.list.items) defined).gates }
     ensures items { OnOk result (list.new.list.items ≡ list.old.list.items ++ defined.entry ∷ []) }
     ensures kept { OnOk result (AreKept list.new) }
 {
@@ -105,18 +108,6 @@ fn first_gates(name: &[u8]) -> &'static [Gate]
     }
 }
 
-/// The gates of the gate of the name, which takes at most three arguments, on the numbers of these; none where it isn't known.
-pub fn gates_by_name<'b, 'a>(list: &'b Definitions<'a>, name: &'a [u8]) -> &'b [Gate]
-    requires kept { AreKept list.now }
-    requires narrow { IfSome (known_behind known list.now.list.items name.now) (λ g. g.arity ≤ most_qubits) }
-    ensures { result.now ≡ gates_of (known_behind known list.now.list.items name.now) }
-{
-    match definition_of(list, name) {
-        Some(defined) => &defined.gates,
-        None => first_gates(name),
-    }
-}
-
 /// The size of the gate of an angle, if it is exact.
 pub fn size_by_value(value: AngleValue) -> Option<Size>
     ensures { result ≡ option_map size_of (turned value) }
@@ -137,21 +128,49 @@ pub fn gates_by_value(value: AngleValue) -> &'static [Gate]
     }
 }
 
-/// Where the gates of a gate come from: the name of one that may be known, or an angle.
+/// A gate that may be known: its size, if it is, and the source of its gates.
 #[derive(Clone, Copy)]
-pub enum GateSource<'a> {
-    Name(&'a [u8]),
-    Angle(AngleValue),
+pub struct Found {
+    pub size: Option<Size>,
+    pub source: Source,
 }
 
-/// The gates of a gate that takes at most three arguments, on the numbers of these; none where it isn't known.
-pub fn gates_from<'b, 'a>(list: &'b Definitions<'a>, source: GateSource<'a>) -> &'b [Gate]
-    requires kept { AreKept list.now }
-    requires narrow { IfSome (gate_from (known_behind known list.now.list.items) source) (λ g. g.arity ≤ most_qubits) }
-    ensures { result.now ≡ gates_of (gate_from (known_behind known list.now.list.items) source.entry) }
+/// The gate of the name, looked up once.
+pub fn found_by_name<'a>(list: &Definitions<'a>, name: &'a [u8]) -> Found
+    requires { AreKept list.now }
+    ensures size { result.size ≡ option_map size_of (known_behind known list.now.list.items name.now) }
+    ensures source { IsSource (meanings_behind known list.now.list.items) list.now.list.items (known_behind known list.now.list.items name.now) result.source }
 {
-    match source {
-        GateSource::Name(name) => gates_by_name(list, name),
-        GateSource::Angle(value) => gates_by_value(value),
+    match place_of(&list.places, name) {
+        Some(place) => Found {
+            size: Some(list.list[place].size),
+            source: Source::Defined(place),
+        },
+        None => Found {
+            size: first_size(name),
+            source: Source::Listed(first_gates(name)),
+        },
+    }
+}
+
+/// The gate of an angle.
+pub fn found_by_value(value: AngleValue) -> Found
+    ensures size { result.size ≡ option_map size_of (turned value) }
+    ensures source { (gs : List KnownGate) (ds : List DefinedGate) → IsSource gs ds (turned value) result.source }
+{
+    Found {
+        size: size_by_value(value),
+        source: Source::Listed(gates_by_value(value)),
+    }
+}
+
+/// No gate.
+pub fn found_nothing() -> Found
+    ensures size { result.size ≡ None }
+    ensures source { (gs : List KnownGate) (ds : List DefinedGate) → IsSource gs ds None result.source }
+{
+    Found {
+        size: None,
+        source: Source::Listed(&[]),
     }
 }

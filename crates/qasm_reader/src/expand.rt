@@ -61,11 +61,7 @@ fn qubits_of(alloc: Global, list: &[Register], args: &[Argument]) -> Result<Vec<
 }
 
 /// The qubits that the arguments of a gate name.
-pub fn gate_qubits(
-    alloc: Global,
-    scan: &Scan,
-    found: &Option<Form>,
-) -> Result<Vec<u8>, AllocError>
+pub fn gate_qubits(alloc: Global, scan: &Scan, found: &Option<Form>) -> Result<Vec<u8>, AllocError>
     ensures { IfOk result (λ v. v.items ≡ gate_qubits (state scan.now) (option_map form found.now)) }
 {
     match found {

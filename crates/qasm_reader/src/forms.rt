@@ -497,10 +497,7 @@ fn form_behind<'a>(
 
 /// The form of a statement, if it has one.
 #[tactic(auto, unfolding(crate::specs::Parse::form_of, crate::specs::Parse::form_in))]
-pub fn form_of<'a>(
-    alloc: Global,
-    statement: &[Lexeme<'a>],
-) -> Result<Option<Form<'a>>, AllocError>
+pub fn form_of<'a>(alloc: Global, statement: &[Lexeme<'a>]) -> Result<Option<Form<'a>>, AllocError>
     ensures { IfOk result (λ o. option_map form o ≡ form_of (lexemes statement.now)) }
 {
     let Some(body) = body_of(statement) else {

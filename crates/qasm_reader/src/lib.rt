@@ -22,11 +22,13 @@ mod laws;
 mod lexemes;
 mod limits;
 mod openings;
+mod pieces;
 mod reading;
 mod refusal;
 mod rows;
 mod scan;
 mod statements;
+mod writing;
 
 pub use fault::ReadFault;
 pub use laws::{

@@ -7,8 +7,9 @@ ghost use Rattle.qasm_reader.specs.Limits.{most_qubits, most_t_gates, most_state
 
 use crate::forms::Definition;
 use crate::gates::Size;
+use crate::pieces::Piece;
 use std::collections::{BTreeMap, BTreeSet};
-use tc_circuit::{Circuit, Gate};
+use tc_circuit::Circuit;
 
 /// A register of qubits: its first qubit, and how many it has.
 #[derive(Clone, Copy)]
@@ -19,13 +20,13 @@ pub struct Register<'a> {
     ghost small: { first + size ≤ most_qubits },
 }
 
-/// A definition with the size of its gate, and the gates that this stands for on the places of its names. These are kept where the
-/// gate can be applied to qubits, which takes at most three names.
+/// A definition with the size of its gate, and the pieces that it is made of, on the places of its names. There are none where it has
+/// more than three names, since its gate can be applied to no qubits then.
 #[derive(Drop)]
 pub struct Defined<'a> {
     pub definition: Definition<'a>,
     pub size: Size,
-    pub gates: Vec<Gate>,
+    pub pieces: Vec<Piece>,
 }
 
 /// The definitions so far in order, and the places of their names among them.

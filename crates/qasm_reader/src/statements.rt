@@ -3,39 +3,44 @@ ghost use Rattle.std.specs.Prelude.{◌≡◌, ◌+◌, IfOk, Option, option_map
 ghost use Rattle.qasm_reader.specs.State.{gate_in};
 ghost use Rattle.qasm_reader.specs.Rows.{has_bad_body as has_bad_body_in};
 ghost use Rattle.qasm_reader.specs.Parse.{form_of};
-ghost use Rattle.qasm_reader.specs.View.{lexemes, form, size_of, gate_defined, counted_size, IsBehind, AreKept, state};
+ghost use Rattle.qasm_reader.specs.View.{lexemes, form, size_of, gate_defined, counted_size, meanings_behind, IsBehind, HasSource, AreKept, state};
+ghost use Rattle.qasm_reader.specs.Known.{known};
+ghost use Rattle.qasm_reader.specs.Pieces.{IsSource};
 
 use crate::bodies::{NOTHING, body_size, has_bad_body};
-use crate::definitions::{size_by_name, size_by_value};
+use crate::definitions::{Found, found_by_name, found_by_value, found_nothing};
 use crate::expand::gate_qubits;
 use crate::forms::{Form, form_of};
 use crate::gates::Size;
 use crate::lexemes::Lexeme;
+use crate::pieces::Source;
 use crate::scan::Scan;
 use std::alloc::{AllocError, Global};
 
-/// A statement: its tokens, the form that it has, if it has one, the size of the gate that the form applies, if it is known, the
-/// qubits that the gate's arguments name, one after another, and of the gate that the form defines, whether its body is bad, and
+/// A statement: its tokens, the form that it has, if it has one, the size and the source of the gate that the form applies, if it is
+/// known, the qubits that the gate's arguments name, one after another, and of the gate that the form defines, whether its body is bad, and
 /// its size, where gates are counted up to one more than the most.
 #[derive(Drop)]
 pub struct Statement<'b, 'a> {
     pub lexemes: &'b [Lexeme<'a>],
     pub form: Option<Form<'a>>,
     pub size: Option<Size>,
+    pub source: Source,
     pub qubits: Vec<u8>,
     pub has_bad_body: bool,
     pub body: Size,
 }
 
-/// The size of the gate that a form applies, if it is known.
-fn size_in<'a>(scan: &Scan<'a>, found: &Option<Form<'a>>) -> Option<Size>
+/// The gate that a form applies, if it is known.
+fn gate_in<'a>(scan: &Scan<'a>, found: &Option<Form<'a>>) -> Found
     requires { AreKept scan.now.definitions }
-    ensures { result ≡ option_map size_of (gate_in (state scan.now).known (option_map form found.now)) }
+    ensures size { result.size ≡ option_map size_of (gate_in (state scan.now).known (option_map form found.now)) }
+    ensures source { IsSource (meanings_behind known scan.now.definitions.list.items) scan.now.definitions.list.items (gate_in (state scan.now).known (option_map form found.now)) result.source }
 {
     match found {
-        Some(Form::Apply(name, _)) => size_by_name(&scan.definitions, name),
-        Some(Form::Turn(rotation, _)) => size_by_value(rotation.value),
-        _ => None,
+        Some(Form::Apply(name, _)) => found_by_name(&scan.definitions, name),
+        Some(Form::Turn(rotation, _)) => found_by_value(rotation.value),
+        _ => found_nothing(),
     }
 }
 
@@ -75,13 +80,16 @@ pub fn statement_behind<'b, 'a>(
     ensures lexemes { IfOk result (λ p. p.lexemes.now ≡ ws.now) }
     ensures form { IfOk result (λ p. option_map form p.form ≡ form_of (lexemes ws.now)) }
     ensures behind { IfOk result (IsBehind (state scan.now)) }
+    ensures source { IfOk result (HasSource scan.now.definitions (state scan.now).known) }
 {
     let form = form_of(alloc, ws)?;
     let qubits = gate_qubits(alloc, scan, &form)?;
     let has_bad_body = bad_body_in(alloc, scan, &form)?;
+    let Found { size, source } = gate_in(scan, &form);
     Ok(Statement {
         lexemes: ws,
-        size: size_in(scan, &form),
+        size,
+        source,
         body: body_in(scan, &form),
         form,
         qubits,
