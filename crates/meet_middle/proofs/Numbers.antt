@@ -1,12 +1,9 @@
 -- The word of a number, and words that are compared.
-use Rattle.std.proofs.Common.{◌≡◌, ℕ, ◌^◌, ◌<◌, ◌&&◌, Bool, true, false, true≢false, not, nat_eq, refl, arith, List, [], Some, All, length, slice_get, slice_index_or, ap, sym, ◌∙◌, subst}
+use Rattle.std.proofs.Common.{◌≡◌, ℕ, ◌^◌, ◌<◌, ◌&&◌, Bool, true, false, true≢false, not, nat_eq, refl, List, [], Some, All, length, slice_get, slice_index_or, ap, sym, ◌∙◌, subst}
 use Rattle.std.proofs.lemmas.List.{get_or-map}
 use Rattle.std.proofs.lemmas.Option.{get_or_from_slice_get}
 use Rattle.std.proofs.lemmas.Bool.{and_parts, eqb-true}
 use Rattle.std.proofs.lemmas.Bool.Decides.{Decides-and, Decides-eqb}
-use Rattle.std.proofs.lemmas.Int.{ints, fits_signed_from_abs}
-use Rattle.std.specs.Prelude.{ℤ, pos, neg_ℤ, ◌≤ℤ◌, FitsSigned}
-use Rattle.std.specs.Int.{w16}
 use Rattle.coset_label.specs.Packing.{digits}
 use Rattle.coset_label.specs.Words.{RotationWord, IsShortWord, packed}
 use Rattle.coset_label.proofs.Digits.{digits_packed}
@@ -42,7 +39,3 @@ is_true false e = absurd (true≢false e)
 
 pub same_codes : (a : Bool) (x y : ℕ) → not (a && nat_eq x y) ≡ false → x ≡ y
 same_codes a x y e = eqb-true x y (and_parts a (nat_eq x y) (is_true (a && nat_eq x y) e)).1
-
--- a number of narrow rows fits sixteen bits
-pub small_fits : (z : ℤ) → neg_ℤ (pos (2 ^ 14)) ≤ℤ z → z ≤ℤ pos (2 ^ 14) → FitsSigned w16 z
-small_fits z low high = fits_signed_from_abs w16 z (omega (arith, ints, low, high))

@@ -10,7 +10,6 @@
 mod answer;
 mod fronts;
 mod least;
-mod parities;
 mod probe;
 mod remainder;
 mod rests;

@@ -5,10 +5,9 @@ ghost use Rattle.channel_rep.specs.Tables.{IsCircuitChannel};
 ghost use Rattle.level_laws.specs.Levels.{removed};
 ghost use Rattle.meet_middle.specs.Remainders.{IsLeastExponentOf};
 
-use crate::parities::Parities;
 use channel_rep::Narrow;
 use pauli_basis::Pauli;
-use quick_label::Turns;
+use quick_label::{Parities, Turns};
 use std::alloc::{AllocError, Global};
 use std::marker::Model;
 

@@ -6,7 +6,8 @@
 -- RunSums: Sums of runs of numbers, one number after the other, and of columns, one column after the other.
 -- HeldColumns: Columns of a table that is 0 between different blocks, from the runs of their blocks.
 -- HeldParities: How often a letter's product can be divided, from parities that are held.
--- ParityBits: Words of bits that hold parities: a bit more at the end.
+-- ParityBits: Words of bits that hold parities: a bit more, at any place.
+-- BlockParities: The parities of a table that is 0 between different blocks, from those of its blocks.
 -- SetOne: A list whose elements are set one after the other.
 -- PlacedSums: The sum to which each column gives its fold at its place, and the tag of that sum, in numbers of 64 bits.
 -- Counts: Counting in parts.
@@ -39,6 +40,7 @@ pub mod RunSums
 pub mod HeldColumns
 pub mod HeldParities
 pub mod ParityBits
+pub mod BlockParities
 pub mod SetOne
 pub mod PlacedSums
 pub mod Counts

@@ -17,9 +17,9 @@ letter_rows f n k p code flags e d are row l = are row (subst (λ j. row < 4 ^ j
 
 -- the divisions are at most the exponent and 1
 pub divisions_fit : {s : SuffixParts} → IsSuffix s → (p : ℕ) → p < 4 ^ s.word.qubits → p ≢ 0 → (divisions : ℕ)
-    → IsDivisionCount s.word.qubits (rotated s.word.qubits false p (table_of s.channel)) divisions → divisions ≤ s.channel.exponent + 1
+    → IsDivisionCount s.word.qubits (rotated s.word.qubits false p (table_of s.narrow)) divisions → divisions ≤ s.narrow.exponent + 1
 divisions_fit {s} is p lp d divisions count =
-    divisions_below s.word.qubits is.word.some is.word.few false p lp d (scaled s.channel) (word_circuit s.word.qubits s.word.letters (scaled s.channel) is.word.word is.built) divisions count
+    divisions_below s.word.qubits is.word.some is.word.few false p lp d (scaled s.narrow) (word_circuit s.word.qubits s.word.letters (scaled s.narrow) is.word.word is.built) divisions count
 
 -- the marks of a span are those of a subspace
 pub span_subspace : (n : ℕ) (word : List ℕ) (span : List Bool) → 0 < 4 ^ n → AreSpan n word span → (size : ℕ) → size ≡ 4 ^ n → MarksSubspace size span

@@ -14,11 +14,11 @@ use Rattle.quick_label.specs.Suffixes.{SuffixParts, HasConstants, IsSuffix}
 -- the identity's channel, its columns and parities, and the span of no letters
 pub record AreEmptyWordParts (n : ℕ) (s : SuffixParts) : Type 0 where
   pub word : s.word ≡ record { qubits = n; letters = [] }
-  pub qubits : s.channel.qubits ≡ n
-  pub exponent : s.channel.exponent ≡ 0
-  pub built : IsBuiltOf n [] (scaled s.channel)
-  pub columns : HoldsColumns (4 ^ s.channel.qubits) (table_of s.channel) s.columns
-  pub parities : HoldsParities s.channel.qubits (table_of s.channel) s.parities
+  pub qubits : s.narrow.qubits ≡ n
+  pub exponent : s.narrow.exponent ≡ 0
+  pub built : IsBuiltOf n [] (scaled s.narrow)
+  pub columns : HoldsColumns (4 ^ s.narrow.qubits) (table_of s.narrow) s.columns
+  pub parities : HoldsParities s.narrow.qubits (table_of s.narrow) s.parities
   pub span : AreSpan n [] s.span
   pub blocks : AreBlocks (4 ^ n) s.span s.blocks
   pub classes : AreClasses n [] s.blocks.homes s.classes
@@ -29,8 +29,8 @@ pub no_letters : (n : ℕ) → IsWord n []
 no_letters n = grind arith
 
 module _ (n : ℕ) (some : 0 < n) (few : n ≤ 3) (s : SuffixParts) (are : AreEmptyWordParts n s) where
-  columns : HoldsColumns (4 ^ n) (table_of s.channel) s.columns
-  columns = subst (λ (k : ℕ). HoldsColumns (4 ^ k) (table_of s.channel) s.columns) are.qubits are.columns
+  columns : HoldsColumns (4 ^ n) (table_of s.narrow) s.columns
+  columns = subst (λ (k : ℕ). HoldsColumns (4 ^ k) (table_of s.narrow) s.columns) are.qubits are.columns
 
   of_no_letters : IsSuffix (record s { word = record { qubits = n; letters = [] } })
   of_no_letters = record {
@@ -41,12 +41,11 @@ module _ (n : ℕ) (some : 0 < n) (few : n ≤ 3) (s : SuffixParts) (are : AreEm
     exponent = omega (arith, are.exponent);
     size = columns.as_many;
     columns = columns;
-    parities = subst (λ (k : ℕ). HoldsParities k (table_of s.channel) s.parities) are.qubits are.parities;
+    parities = subst (λ (k : ℕ). HoldsParities k (table_of s.narrow) s.parities) are.qubits are.parities;
     span = are.span;
     blocks = are.blocks;
     classes = are.classes;
     constants = record {
-      narrow = are.constants.narrow;
       turns = are.constants.turns;
       folds = are.constants.folds;
       powers = are.constants.powers;
@@ -55,6 +54,7 @@ module _ (n : ℕ) (some : 0 < n) (few : n ≤ 3) (s : SuffixParts) (are : AreEm
       classes = are.constants.classes;
       rooms = are.constants.rooms;
       front = are.constants.front;
+      slow = are.constants.slow;
     };
   }
 

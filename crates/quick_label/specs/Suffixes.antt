@@ -21,7 +21,6 @@ use Rattle.quick_label.specs.declared.front.Front.{Front}
 -- before it; and what is the same for all words
 pub record SuffixParts : Type 0 where
   pub word : RotationWord
-  pub channel : ChannelGrid
   pub narrow : ChannelGrid
   pub columns : StoredColumns
   pub parities : ParityWords
@@ -33,11 +32,11 @@ pub record SuffixParts : Type 0 where
   pub powers : List ℕ
   pub top : ℕ
   pub front : Front
+  pub slow : ChannelGrid
 
--- the turns of all letters, the weights of the fold and the powers of the places, and room for a channel, blocks, classes and a
--- front, on n qubits
+-- the turns of all letters, the weights of the fold and the powers of the places, and room for blocks, classes, a front and a
+-- channel, on n qubits
 pub record HasConstants (n : ℕ) (s : SuffixParts) : Type 0 where
-  pub narrow : s.narrow.qubits ≡ n
   pub turns : s.turns.qubits ≡ n
   pub folds : AreFolds n s.folds
   pub powers : ArePlacePowers n s.powers
@@ -46,17 +45,18 @@ pub record HasConstants (n : ℕ) (s : SuffixParts) : Type 0 where
   pub classes : length s.classes ≡ 4 ^ n
   pub rooms : All (IsClassRoom n) s.classes
   pub front : IsFrontRoom n s.front
+  pub slow : s.slow.qubits ≡ n
 
 -- the channel is the word's with its least exponent, and the rest is the channel's and the word's
 pub record IsSuffix (s : SuffixParts) : Type 0 where
   pub word : IsShortWord s.word
-  pub qubits : s.channel.qubits ≡ s.word.qubits
-  pub reduced : IsReduced s.channel
-  pub built : IsBuiltOf s.word.qubits (word_steps s.word.letters) (scaled s.channel)
-  pub exponent : s.channel.exponent ≤ length s.word.letters
+  pub qubits : s.narrow.qubits ≡ s.word.qubits
+  pub reduced : IsReduced s.narrow
+  pub built : IsBuiltOf s.word.qubits (word_steps s.word.letters) (scaled s.narrow)
+  pub exponent : s.narrow.exponent ≤ length s.word.letters
   pub size : s.columns.size ≡ 4 ^ s.word.qubits
-  pub columns : HoldsColumns (4 ^ s.word.qubits) (table_of s.channel) s.columns
-  pub parities : HoldsParities s.word.qubits (table_of s.channel) s.parities
+  pub columns : HoldsColumns (4 ^ s.word.qubits) (table_of s.narrow) s.columns
+  pub parities : HoldsParities s.word.qubits (table_of s.narrow) s.parities
   pub span : AreSpan s.word.qubits s.word.letters s.span
   pub blocks : AreBlocks (4 ^ s.word.qubits) s.span s.blocks
   pub classes : AreClasses s.word.qubits s.word.letters s.blocks.homes s.classes

@@ -14,6 +14,7 @@ pub mod laws;
 mod numbers;
 mod parities;
 mod places;
+mod slow;
 mod spans;
 mod suffix;
 mod sums;

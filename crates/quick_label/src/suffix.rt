@@ -18,12 +18,13 @@ use crate::columns::Columns;
 use crate::front::{Front, find_leads, number_columns};
 use crate::parities::Parities;
 use crate::places::{find_places, place_powers, placed_sum, tag_of_sum, top_power};
+use crate::slow::mark_by_label;
 use crate::spans::{codes, empty_span, widen};
 use crate::sums::weigh_columns;
 use crate::turns::Turns;
 use channel_rep::{Channel, Narrow};
-use coset_label::{Scratch, Word, label_of_front, narrow_of_word};
-use coset_words::{Mark, mark_of};
+use coset_label::{Scratch, Word, narrow_of_word};
+use coset_words::Mark;
 use pauli_basis::Pauli;
 use std::alloc::{AllocError, Global};
 use std::marker::Model;
@@ -34,8 +35,7 @@ use std::marker::Model;
 #[derive(Drop)]
 pub struct Suffix {
     word: Word,
-    /// The word's channel, with its least exponent, and the narrow rows that it is made in.
-    channel: Channel,
+    /// The word's channel, with its least exponent.
     narrow: Narrow,
     columns: Columns,
     parities: Parities,
@@ -49,6 +49,8 @@ pub struct Suffix {
     powers: Vec<u64>,
     top: u64,
     front: Front,
+    /// Room for the word's channel where a mark is made the slow way.
+    slow: Channel,
 }
 
 impl Model for Suffix {
@@ -62,7 +64,6 @@ impl Model for Suffix {
 
     ghost invariant = { λ s. IsSuffix (record {
       word = s.word;
-      channel = s.channel;
       narrow = s.narrow;
       columns = s.columns;
       parities = s.parities;
@@ -74,6 +75,7 @@ impl Model for Suffix {
       powers = s.powers.items;
       top = s.top;
       front = s.front;
+      slow = s.slow;
     }) };
 }
 
@@ -184,14 +186,13 @@ impl Suffix {
         ensures { IfOk result (λ s. s ≡ record { qubits = n; letters = [] }) }
     {
         let narrow = Narrow::new(alloc, n)?;
-        let mut channel = Channel::identity(alloc, n)?;
-        channel.copy_from_narrow(&narrow);
-        let mut parities = Parities::new(alloc, n)?;
-        parities.take(&channel);
+        let slow = Channel::identity(alloc, n)?;
         let mut span = vec![in alloc; false; codes(n)]?;
         empty_span(&mut span);
         let mut blocks = Blocks::new(alloc, n)?;
         blocks.take(&span);
+        let mut parities = Parities::new(alloc, n)?;
+        parities.take_within(&narrow, &blocks);
         let mut columns = Columns::new(alloc, n)?;
         columns.take(&narrow, &blocks);
         let mut classes = new_classes(alloc, n)?;
@@ -200,7 +201,6 @@ impl Suffix {
         let folds = Folds::new(alloc, n, &turns)?;
         Ok(Suffix {
             word: Word::empty(n),
-            channel,
             narrow,
             columns,
             parities,
@@ -212,6 +212,7 @@ impl Suffix {
             powers: place_powers(alloc, n)?,
             top: top_power(n),
             front: Front::new(alloc, n)?,
+            slow,
         })
     }
 
@@ -232,17 +233,16 @@ impl Suffix {
         }
         narrow_of_word(word, &mut self.narrow);
         self.narrow.reduce();
-        self.channel.copy_from_narrow(&self.narrow);
-        self.parities.take(&self.channel);
         span_of(word, &mut self.span, &mut self.front.span);
         self.blocks.take(&self.span);
+        self.parities.take_within(&self.narrow, &self.blocks);
         self.columns.take(&self.narrow, &self.blocks);
         take_classes(word.qubits(), &self.span, &self.blocks, &mut self.classes);
         self.word = word;
     }
 
     /// The mark of the word with a letter before its first, or `None` where it has to be made the slow way.
-    pub(crate) fn quick_mark(&mut self, letter: Pauli) -> Option<Mark>
+    pub fn quick_mark(&mut self, letter: Pauli) -> Option<Mark>
         requires same { letter.qubits ≡ self.old.qubits }
         requires other { letter.code ≢ 0 }
         ensures word { self.new ≡ self.old }
@@ -251,7 +251,7 @@ impl Suffix {
         let p = letter.code() as usize;
         let commuting = self.turns.commuting(p);
         let divisions = self.parities.divisions(commuting, letter);
-        let exponent = self.channel.exponent() + 1 - divisions as u32;
+        let exponent = self.narrow.exponent() + 1 - divisions as u32;
         if exponent > most_exponent_behind(divisions) {
             return None;
         }
@@ -295,7 +295,6 @@ impl Suffix {
         if let Some(mark) = self.quick_mark(letter) {
             return mark;
         }
-        label_of_front(&self.channel, letter, label);
-        mark_of(label)
+        mark_by_label(&self.narrow, letter, &mut self.slow, label)
     }
 }

@@ -4,8 +4,8 @@ ghost use Rattle.coset_label.specs.Words.{most_letters};
 
 use crate::blocks::Blocks;
 use crate::columns::Columns;
-use channel_rep::{Channel, Narrow};
-use coset_label::{Word, channel_of_word, narrow_of_word};
+use channel_rep::Narrow;
+use coset_label::{Word, narrow_of_word};
 use pauli_basis::Pauli;
 use std::alloc::{AllocError, Global};
 
@@ -57,13 +57,13 @@ pub fn word(n: u8, codes: &[u8]) -> Result<Word, &'static str>
 }
 
 /// The channel of a word, with the least exponent.
-pub fn channel_of(alloc: Global, word: Word) -> Result<Channel, AllocError>
+pub fn channel_of(alloc: Global, word: Word) -> Result<Narrow, AllocError>
     ensures { IfOk result (λ m. m.qubits ≡ word.qubits) }
 {
-    let mut channel = Channel::identity(alloc, word.qubits())?;
-    channel_of_word(word, &mut channel);
-    channel.reduce();
-    Ok(channel)
+    let mut narrow = Narrow::new(alloc, word.qubits())?;
+    narrow_of_word(word, &mut narrow);
+    narrow.reduce();
+    Ok(narrow)
 }
 
 /// The columns of the channel of a word on one qubit whose letters are Z.
@@ -73,9 +73,7 @@ pub fn columns_of(alloc: Global, word: Word) -> Result<Columns, AllocError>
 {
     let mut blocks = Blocks::new(alloc, 1)?;
     blocks.take(&[true, false, false, true]);
-    let mut narrow = Narrow::new(alloc, 1)?;
-    narrow_of_word(word, &mut narrow);
-    narrow.reduce();
+    let narrow = channel_of(alloc, word)?;
     let mut columns = Columns::new(alloc, 1)?;
     columns.take(&narrow, &blocks);
     Ok(columns)

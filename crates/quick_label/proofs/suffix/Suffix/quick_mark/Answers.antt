@@ -27,7 +27,7 @@ overflow_sub-exponent c =
     let own : c.args.letter.qubits ≡ n = c.requires.same ∙ ap (λ (w : RotationWord). w.qubits) (sym c.self.view_is) in
     let code = c.code-p.ensures.value in
     let lp : c.args.letter.code < 4 ^ n = subst (λ k. c.args.letter.code < 4 ^ k) own (subst (λ k. k < 4 ^ c.args.letter.qubits) code c.code-p.ensures.below) in
-    let count = c.divisions-divisions.ensures n false (table_of c.self.inside.channel) inv.parities (letter_rows commute n _ c.args.letter.code c.code-p.result _ inv.constants.turns code c.commuting-commuting.ensures.value) in
+    let count = c.divisions-divisions.ensures n false (table_of c.self.inside.narrow) inv.parities (letter_rows commute n _ c.args.letter.code c.code-p.result _ inv.constants.turns code c.commuting-commuting.ensures.value) in
     let low = divisions_fit inv c.args.letter.code lp c.requires.other c.divisions-divisions.result count in
     subst (λ k. c.divisions-divisions.result ≤ k + 1) (sym c.exponent.ensures.value) low
 
@@ -60,7 +60,7 @@ returns-clause-mark c =
     let n = word.qubits in
     let p = c.args.letter.code in
     let d = c.divisions-divisions.result in
-    let table = table_of c.self.inside.channel in
+    let table = table_of c.self.inside.narrow in
     let own : c.args.letter.qubits ≡ n = c.requires.same ∙ ap (λ (w : RotationWord). w.qubits) (sym c.self.view_is) in
     let code = c.code-p.ensures.value in
     let lp : p < 4 ^ n = subst (λ k. p < 4 ^ k) own (subst (λ k. k < 4 ^ c.args.letter.qubits) code c.code-p.ensures.below) in
@@ -100,8 +100,8 @@ returns-clause-mark c =
     subst (λ x. x) (λ i. AreLedBy (its.blocks.long i) span (numbers_led i) leads)
     (c.find_leads.ensures.leads span (subst (λ k. AreBlocks k span class.blocks) (sym its.blocks.long) its.blocks) c.if-not-find_leads.false) in
     subst (λ (w : RotationWord). IsMarkOf w.qubits (p ∷ w.letters) (record { exponent = c.exponent.result + 1 - d; tag = c.tag_of_sum-tag.result })) c.self.view_is
-    (mark_is n inv.word.some inv.word.few word.letters p ((lp, c.requires.other), inv.word.word) (scaled c.self.inside.channel) inv.built
-    (least_exponent n c.self.inside.channel inv.qubits inv.reduced) d count span its.span low few_rows
+    (mark_is n inv.word.some inv.word.few word.letters p ((lp, c.requires.other), inv.word.word) (scaled c.self.inside.narrow) inv.built
+    (least_exponent n c.self.inside.narrow inv.qubits inv.reduced) d count span its.span low few_rows
     f.folds.items f.highs.items f.lows.items sums numbers
     (λ x y z halves column l. c.number_columns.ensures.numbers x y z
     (subst (λ t. t) (λ i. AreHalves (sym size i) (sym c.deref.ensures.value i) (sym c.deref-2.ensures.value i) (nat_lt 0 d) x y z) halves) column (subst (λ k. column < k) (sym size) l))

@@ -18,8 +18,8 @@ use Rattle.quick_label.proofs.PackableWords.{word_sparse}
 use Rattle.quick_label.proofs.SuffixFacts.{span_subspace}
 use Rattle.quick_label.proofs.suffix.Suffix.turn_to.Goals as goal
 
-pub take-requires-2 : goal.take-requires-2
-take-requires-2 c =
+pub take-requires : goal.take-requires
+take-requires c =
     let inv = c.self.invariant in
     let word = c.args.word in
     let own : word.qubits ≡ c.self.inside.word.qubits = c.requires ∙ ap (λ (w : RotationWord). w.qubits) (sym c.self.view_is) in
@@ -29,14 +29,23 @@ take-requires-2 c =
     span_subspace word.qubits word.letters c.deref.result.now (codes_some word.qubits) (subst (AreSpan word.qubits word.letters) (sym read) c.span_of.ensures.span)
     c.self.inside.blocks.size (inv.constants.blocks ∙ sym (ap (λ k. 4 ^ k) own))
 
-pub take-requires-3-clause-held : goal.take-requires-3-clause-held
-take-requires-3-clause-held c =
+pub take_within-requires-clause-blocks : goal.take_within-requires-clause-blocks
+take_within-requires-clause-blocks c =
     let inv = c.self.invariant in
     let word = c.args.word in
     let n = word.qubits in
     let own : n ≡ c.self.inside.word.qubits = c.requires ∙ ap (λ (w : RotationWord). w.qubits) (sym c.self.view_is) in
-    let qn : c.reduce.new.self.qubits ≡ n = c.reduce.ensures.qubits ∙ c.narrow_of_word.ensures.qubits ∙ inv.constants.narrow ∙ sym own in
-    (c.deref.result.now, subst (λ k. AreBlocks k c.deref.result.now c.take-2.new.self) (inv.constants.blocks ∙ ap (λ k. 4 ^ k) (sym own ∙ sym qn)) c.take-2.ensures.blocks)
+    let qn : c.reduce.new.self.qubits ≡ n = c.reduce.ensures.qubits ∙ c.narrow_of_word.ensures.qubits ∙ inv.qubits ∙ sym own in
+    (c.deref.result.now, subst (λ k. AreBlocks k c.deref.result.now c.take.new.self) (inv.constants.blocks ∙ ap (λ k. 4 ^ k) (sym own ∙ sym qn)) c.take.ensures.blocks)
+
+pub take-requires-2-clause-held : goal.take-requires-2-clause-held
+take-requires-2-clause-held c =
+    let inv = c.self.invariant in
+    let word = c.args.word in
+    let n = word.qubits in
+    let own : n ≡ c.self.inside.word.qubits = c.requires ∙ ap (λ (w : RotationWord). w.qubits) (sym c.self.view_is) in
+    let qn : c.reduce.new.self.qubits ≡ n = c.reduce.ensures.qubits ∙ c.narrow_of_word.ensures.qubits ∙ inv.qubits ∙ sym own in
+    (c.deref.result.now, subst (λ k. AreBlocks k c.deref.result.now c.take.new.self) (inv.constants.blocks ∙ ap (λ k. 4 ^ k) (sym own ∙ sym qn)) c.take.ensures.blocks)
 
 pub take_classes-requires-clause-span : goal.take_classes-requires-clause-span
 take_classes-requires-clause-span c =
@@ -63,45 +72,42 @@ invariant_of-self c =
     let classes_long : length classes ≡ c.self.inside.classes.len = c.take_classes.ensures.long ∙ c.deref_mut-3.ensures.len in
     let classes_kept = take_at classes _ _ classes_long in
     let q = c.qubits.ensures.value in
-    let blocks : AreBlocks c.self.inside.blocks.size c.deref.result.now c.take-2.new.self = c.take-2.ensures.blocks in
+    let blocks : AreBlocks c.self.inside.blocks.size c.deref.result.now c.take.new.self = c.take.ensures.blocks in
     let steps = word_steps word.letters in
     let narrow = c.reduce.new.self in
-    let copied : c.copy_from_narrow.new.self ≡ narrow = c.copy_from_narrow.ensures in
     let made = c.narrow_of_word.new.narrow in
-    let made_n : made.qubits ≡ n = c.narrow_of_word.ensures.qubits ∙ inv.constants.narrow ∙ sym own in
+    let made_n : made.qubits ≡ n = c.narrow_of_word.ensures.qubits ∙ inv.qubits ∙ sym own in
     let narrow_n : narrow.qubits ≡ n = c.reduce.ensures.qubits ∙ made_n in
     let built : IsBuiltOf n steps (scaled narrow) =
     subst (λ k. IsBuiltOf k steps (scaled narrow)) made_n (c.reduce.ensures.built steps (subst (λ k. IsBuiltOf k steps (scaled made)) (sym c.narrow_of_word.ensures.qubits) c.narrow_of_word.ensures.built)) in
     let valid = c.narrow_of_word.ensures.valid in
     let read_span : c.deref.result.now ≡ span = c.deref.ensures.value ∙ kept in
-    let held : AreBlocks (4 ^ n) span c.take-2.new.self = subst (λ x. x) (λ i. AreBlocks ((inv.constants.blocks ∙ more) i) (read_span i) c.take-2.new.self) blocks in
-    let columns : HoldsColumns (4 ^ n) (table_of narrow) c.take-3.new.self =
-    subst (λ k. HoldsColumns (4 ^ k) (table_of narrow) c.take-3.new.self) narrow_n
-    (c.take-3.ensures.columns span (subst (λ k. AreBlocks (4 ^ k) span c.take-2.new.self) (sym narrow_n) held)
-    (subst (λ k. IsSparseTable (4 ^ k) span (table_of narrow)) (sym narrow_n) (word_sparse n word.letters valid.word span spanned (scaled narrow) built))) in
+    let held : AreBlocks (4 ^ n) span c.take.new.self = subst (λ x. x) (λ i. AreBlocks ((inv.constants.blocks ∙ more) i) (read_span i) c.take.new.self) blocks in
+    let held_narrow : AreBlocks (4 ^ narrow.qubits) span c.take.new.self = subst (λ k. AreBlocks (4 ^ k) span c.take.new.self) (sym narrow_n) held in
+    let sparse : IsSparseTable (4 ^ narrow.qubits) span (table_of narrow) =
+    subst (λ k. IsSparseTable (4 ^ k) span (table_of narrow)) (sym narrow_n) (word_sparse n word.letters valid.word span spanned (scaled narrow) built) in
+    let columns : HoldsColumns (4 ^ n) (table_of narrow) c.take-2.new.self =
+    subst (λ k. HoldsColumns (4 ^ k) (table_of narrow) c.take-2.new.self) narrow_n (c.take-2.ensures.columns span held_narrow sparse) in
     record {
       word = valid;
-      qubits = ap (λ (g : ChannelGrid). g.qubits) copied ∙ narrow_n;
-      reduced = subst IsReduced (sym copied) c.reduce.ensures.reduced;
-      built = subst (λ (g : ChannelGrid). IsBuiltOf n steps (scaled g)) (sym copied) built;
-      exponent = omega (arith, ap (λ (g : ChannelGrid). g.exponent) copied, c.reduce.ensures.exponent, c.narrow_of_word.ensures.exponent);
+      qubits = narrow_n;
+      reduced = c.reduce.ensures.reduced;
+      built = built;
+      exponent = omega (arith, c.reduce.ensures.exponent, c.narrow_of_word.ensures.exponent);
       size = columns.as_many;
-      columns = subst (λ (g : ChannelGrid). HoldsColumns (4 ^ n) (table_of g) c.take-3.new.self) (sym copied) columns;
-      parities =
-          subst (λ (g : ChannelGrid). HoldsParities n (table_of g) c.take.new.self) (sym copied)
-          (subst (λ k. HoldsParities k (table_of narrow) c.take.new.self) narrow_n (subst (λ (g : ChannelGrid). HoldsParities g.qubits (table_of g) c.take.new.self) copied c.take.ensures));
+      columns = columns;
+      parities = subst (λ k. HoldsParities k (table_of narrow) c.take_within.new.self) narrow_n (c.take_within.ensures span held_narrow sparse);
       span = subst (AreSpan n word.letters) (sym kept) spanned;
-      blocks = subst (λ x. x) (λ i. AreBlocks ((inv.constants.blocks ∙ more) i) (c.deref.ensures.value i) c.take-2.new.self) blocks;
-      classes = subst (AreClasses n word.letters c.take-2.new.self.homes) (sym classes_kept)
-          (subst (λ k. AreClasses k word.letters c.take-2.new.self.homes classes) q
+      blocks = subst (λ x. x) (λ i. AreBlocks ((inv.constants.blocks ∙ more) i) (c.deref.ensures.value i) c.take.new.self) blocks;
+      classes = subst (AreClasses n word.letters c.take.new.self.homes) (sym classes_kept)
+          (subst (λ k. AreClasses k word.letters c.take.new.self.homes classes) q
           (c.take_classes.ensures.classes word.letters (subst (λ x. x) (λ i. AreSpan (sym q i) word.letters (sym (c.deref-2.ensures.value ∙ kept) i)) spanned)));
       constants = record {
-        narrow = narrow_n;
         turns = inv.constants.turns ∙ sym own;
         folds = subst (λ k. AreFolds k c.self.inside.folds) (sym own) inv.constants.folds;
         powers = subst (λ k. ArePlacePowers k c.self.inside.powers.items) (sym own) inv.constants.powers;
         top = subst (λ k. c.self.inside.top ≡ column_power k ^ 4 ^ k % 2 ^ 64) (sym own) inv.constants.top;
-        blocks = c.take-2.ensures.size ∙ inv.constants.blocks ∙ more;
+        blocks = c.take.ensures.size ∙ inv.constants.blocks ∙ more;
         classes = ap length classes_kept ∙ c.take_classes.ensures.long ∙ ap length c.deref_mut-3.ensures.value ∙ inv.constants.classes ∙ more;
         rooms = subst (λ (xs : List Class). All (IsClassRoom n) xs) (sym classes_kept) (subst (λ k. All (IsClassRoom k) classes) q c.take_classes.ensures.rooms);
         front = record {
@@ -116,5 +122,6 @@ invariant_of-self c =
           leads = inv.constants.front.leads ∙ more;
           places = inv.constants.front.places ∙ more;
         };
+        slow = inv.constants.slow ∙ sym own;
       };
     }

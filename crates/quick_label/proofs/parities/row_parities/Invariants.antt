@@ -2,7 +2,7 @@ use Rattle.std.proofs.Common.{◌≡◌, ℕ, ◌^◌, ◌<◌}
 use Rattle.std.specs.Int.{bit_at}
 use Rattle.channel_rep.specs.Cells.{table_of}
 use Rattle.word_laws.specs.Parities.{parity}
-use Rattle.meet_middle.proofs.parities.row_parities.Given as goal
+use Rattle.quick_label.proofs.parities.row_parities.Given as goal
 
 abbrev pub invariant-loop-column : goal.invariant-loop-column
 invariant-loop-column l = record {
