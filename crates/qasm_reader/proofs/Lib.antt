@@ -12,6 +12,7 @@
 -- Order: Rows by their reasons, wherever they stand in the order.
 -- Places: The places of names among names: where there are no strangers and no twins, they are below the number of names, and differ.
 -- Takeable: A statement to which no row applies can be taken: its gates fit the qubits, and they have few T gates.
+-- Written: The pieces of definitions: on places, as they are added, and as they are written one after another.
 -- Kept: What is kept of definitions, one after another.
 -- Twins: Names in falling order of their places: as a set, and whether one stands twice.
 -- Outcomes: Each text is read, or refused, in one way.

@@ -22,8 +22,8 @@ fn push_images(todo: &mut Vec<Piece>, pieces: &[Piece], places: Places) -> Resul
     Ok(())
 }
 
-/// The pieces, the first at the end.
-fn waiting(alloc: Global, pieces: &[Piece]) -> Result<Vec<Piece>, AllocError>
+/// The pieces as a stack, the first at the end.
+fn stack_of(alloc: Global, pieces: &[Piece]) -> Result<Vec<Piece>, AllocError>
     ensures { IfOk result (λ v. v.items ≡ reverse pieces.now) }
 {
     let mut todo = Vec::from_slice(alloc, pieces)?;
@@ -68,7 +68,7 @@ pub fn gates_of_definition<'a>(
 {
     let defined = &list.list[place];
     let mut gates = Vec::with_capacity(alloc, defined.size.length)?;
-    let mut todo = waiting(alloc, &defined.pieces)?;
+    let mut todo = stack_of(alloc, &defined.pieces)?;
     while let Some(piece) = todo.pop() {
         write_piece(&mut gates, &mut todo, list, piece)?;
     }
