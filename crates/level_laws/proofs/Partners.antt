@@ -14,11 +14,12 @@ use Rattle.std.proofs.lemmas.List.Sums.{position_or_len_is}
 use Rattle.std.proofs.lemmas.Slice.Eq.{bytes_eq-Decides}
 use Rattle.pauli_basis.specs.Products.{commute}
 use Rattle.pauli_basis.proofs.Products.{commute-swap}
+use Rattle.channel_rep.specs.Tables.{SameTable}
 use Rattle.channel_rep.specs.Words.{IsWord}
 use Rattle.coset_label.specs.Cosets.{SameCosetWords}
 use Rattle.coset_label.specs.Words.{word_channel}
-use Rattle.coset_label.proofs.OneCoset.{same_coset_sym}
-use Rattle.word_laws.proofs.Exchanges.{cosets_exchange}
+use Rattle.coset_label.proofs.OneCoset.{same_coset_sym, same_coset_of_same}
+use Rattle.word_laws.proofs.Exchanges.{words_exchange}
 use Rattle.coset_label.specs.Order.{IsEarlier}
 use Rattle.level_laws.specs.Levels.{IsLevelWord, IsLevel, IsCandidate, IsOffered, IsOfferTest, StandsIn, letter_at, word_at, candidate_at, offers_of}
 use Rattle.level_laws.specs.Laws.{ArePartners}
@@ -172,16 +173,21 @@ module _ (n : ℕ) (some : 0 < n) (few : n ≤ 3) (k : ℕ) (words : List (List 
     partner_other : x ≢ y
     partner_other same = exchange_other n p parts.letter parts.may (sym (ap (letter_at n) same) ∙ partner_letter)
 
+    partner_channels : SameTable n (word_channel n (candidate_at n words y)) (word_channel n (candidate_at n words x))
+    partner_channels =
+        let commuting = (and_parts (not (p == parts.letter)) (commute n p parts.letter) parts.may).1 in
+        subst (λ (z : List ℕ × List ℕ). SameTable n (word_channel n z.0) (word_channel n z.1)) (λ i. (p ∷ sym parts.is i, sym partner_letter i ∷ sym partner_word i))
+        (words_exchange n p parts.letter [] parts.rest commuting whole)
+
     partner_coset : SameCosetWords n (candidate_at n words y) (candidate_at n words x)
-    partner_coset =
-        subst (λ (z : List ℕ × List ℕ). SameCosetWords n z.0 z.1) (λ i. (p ∷ sym parts.is i, sym partner_letter i ∷ sym partner_word i))
-        (cosets_exchange n p parts.letter [] parts.rest (and_parts (not (p == parts.letter)) (commute n p parts.letter) parts.may).1 whole)
+    partner_coset = same_coset_of_same n _ _ partner_channels
 
     pub are_partners : ArePartners n k words y x
     are_partners = record {
       below = partner_below;
       back = partner_back;
       other = partner_other;
+      channels = partner_channels;
       coset = partner_coset;
       offered = (offered_beside n k _ _ (candidate_is n some k words level x partner_below) partner_coset, offered_beside n k _ _ (candidate_is n some k words level y low) (same_coset_sym n _ _ partner_coset));
     }

@@ -6,11 +6,13 @@ ghost use Rattle.coset_words.specs.Marks.{IsMarkOf};
 ghost use Rattle.level_laws.specs.Levels.{candidate_at};
 ghost use Rattle.level_store.specs.Filling.{position_count, height_of, last_letters, IsFilled, OffersAdd, TellsNew};
 ghost use Rattle.level_store.specs.InOrder.{IsLevelOf};
+ghost use Rattle.level_store.specs.Partners.{Makes};
 ghost use Rattle.level_store.specs.Stored.{qubits_of_all, levels_of, letters_in, IsStoredWord};
 
 use crate::hand::{Hand, hands_of, seats_of};
 use crate::level::Level;
 use crate::levels::Levels;
+use crate::partner::{Turn, turn_of};
 use crate::repeat::comes_again;
 use channel_rep::Narrow;
 use coset_label::Word;
@@ -46,20 +48,70 @@ impl<'a> Job<Hand> for Filling<'a> {
 
     ghost name = { λ job hand. numbers_of hand.seat };
 
-    /// Offers the candidate of a position, unless its coset stands in one of the two levels below. A letter that comes again
-    /// tells so without a mark.
+    /// Offers the candidate of a position and its partner, unless their coset stands in one of the two levels below: nothing
+    /// where its partner's turn does. A letter that comes again tells so without a mark.
     fn turn(&self, local: &mut Hand, position: u64) {
         let (letter, word) = self.levels.parts_at(position);
         if comes_again(letter, word) {
             return;
         }
-        local.suffix.turn_to(word);
-        let mark = local.suffix.mark_with(letter, &mut local.label);
-        let candidate = word.push_front(letter);
-        if self.levels.is_new(candidate, mark, &mut local.room) {
-            self.table
-                .offer(&mut local.seat, candidate, mark, &mut local.room);
+        match self.levels.turn_at(position, letter, word) {
+            Turn::Nothing => {}
+            Turn::One => {
+                self.offer_if_new(local, letter, word, None);
+            }
+            Turn::Two(other) => {
+                self.offer_if_new(local, letter, word, Some(other));
+            }
         }
+    }
+}
+
+impl<'a> Filling<'a> {
+    ghost use Rattle.std.specs.Prelude.{◌≡◌, ◌≢◌, ◌∷◌, ◌++◌, [], cond, length, IfSome};
+    ghost use Rattle.coset_label.specs.Words.{most_letters};
+    ghost use Rattle.coset_table.specs.Seats.{numbers_of, offers_of, IsSeatOf};
+    ghost use Rattle.level_store.specs.Filling.{height_of, IsFilling, TellsNew};
+    ghost use Rattle.level_store.specs.Hands.{IsHand};
+    ghost use Rattle.level_store.specs.Partners.{IsBeside, letters_beside};
+    ghost use Rattle.level_store.specs.Stored.{qubits_of_all, levels_of, IsStoredWord};
+
+    /// Marks the candidate of a letter before a word, offers it where its coset is new, and with it another word of the same
+    /// channel, if there is one, which has the same mark. The answer is whether it is new.
+    fn offer_if_new(
+        &self,
+        hand: &mut Hand,
+        letter: Pauli,
+        word: Word,
+        partner: Option<Word>,
+    ) -> bool
+        requires filling { IsFilling self.now.table.now self.now.levels.now }
+        requires hand { IsHand (qubits_of_all self.now.levels.now) hand.old }
+        requires seat { IsSeatOf self.now.table.now hand.old.seat }
+        requires letter { letter.qubits ≡ qubits_of_all self.now.levels.now }
+        requires other { letter.code ≢ 0 }
+        requires word { IsStoredWord (qubits_of_all self.now.levels.now) (height_of self.now.levels.now) word }
+        requires room { length word.letters < most_letters (qubits_of_all self.now.levels.now) }
+        requires partner { IfSome partner (IsBeside (qubits_of_all self.now.levels.now) (length (levels_of self.now.levels.now)) (letter.code ∷ word.letters)) }
+        ensures hand { IsHand (qubits_of_all self.now.levels.now) hand.new }
+        ensures seat { IsSeatOf self.now.table.now hand.new.seat }
+        ensures name { numbers_of hand.new.seat ≡ numbers_of hand.old.seat }
+        ensures new { TellsNew self.now.levels.now (letter.code ∷ word.letters) result }
+        ensures offers { offers_of hand.new.seat ≡ offers_of hand.old.seat ++ cond result ((letter.code ∷ word.letters) ∷ letters_beside partner) [] }
+    {
+        hand.suffix.turn_to(word);
+        let mark = hand.suffix.mark_with(letter, &mut hand.label);
+        let candidate = word.push_front(letter);
+        if !self.levels.is_new(candidate, mark, &mut hand.room) {
+            return false;
+        }
+        self.table
+            .offer(&mut hand.seat, candidate, mark, &mut hand.room);
+        if let Some(other) = partner {
+            self.table
+                .offer(&mut hand.seat, other, mark, &mut hand.room);
+        }
+        true
     }
 }
 
@@ -103,6 +155,19 @@ impl Levels {
             unreachable!()
         };
         (letter, self.last().word(position / letters))
+    }
+
+    /// What the turn of a position makes, whose candidate's parts are given.
+    fn turn_at(&self, position: u64, letter: Pauli, word: Word) -> Turn
+        requires room { length (levels_of self.now) ≤ most_letters (qubits_of_all self.now) }
+        requires position { position < position_count self.now }
+        requires letter { letter.qubits ≡ qubits_of_all self.now }
+        requires other { letter.code ≢ 0 }
+        requires word { IsStoredWord (qubits_of_all self.now) (height_of self.now) word }
+        requires is { letter.code ∷ word.letters ≡ candidate_at (qubits_of_all self.now) (last_letters self.now) position }
+        ensures { Makes (qubits_of_all self.now) (last_letters self.now) position result }
+    {
+        turn_of(self.last(), self.letters(), position, letter, word)
     }
 
     /// Whether the coset of a word stands neither in the last level nor in the one below.
