@@ -1,5 +1,5 @@
 // The gates that are known behind definitions.
-ghost use Rattle.std.specs.Prelude.{◌≡◌, ◌≤◌, ◌++◌, ◌∷◌, [], ℕ, List, None, Some, cond, OnOk, IfSome, IfNone, option_map};
+ghost use Rattle.std.specs.Prelude.{◌≡◌, ◌≤◌, ◌++◌, ◌∷◌, [], ℕ, List, Some, cond, OnOk, IfSome, IfNone, option_map};
 ghost use Rattle.std.specs.Str.{bytes_eq};
 ghost use Rattle.qasm_reader.specs.Known.{known, turned};
 ghost use Rattle.qasm_reader.specs.View.{size_of, gate_of, place_of, IsPlaced, IsKept, known_behind, meanings_behind, AreKept, IsDefinedAs, known_gate};
@@ -161,16 +161,5 @@ pub fn found_by_value(value: AngleValue) -> Found
     Found {
         size: size_by_value(value),
         source: Source::Listed(gates_by_value(value)),
-    }
-}
-
-/// No gate.
-pub fn found_nothing() -> Found
-    ensures size { result.size ≡ None }
-    ensures source { (gs : List KnownGate) (ds : List DefinedGate) → IsSource gs ds None result.source }
-{
-    Found {
-        size: None,
-        source: Source::Listed(&[]),
     }
 }

@@ -8,7 +8,7 @@ ghost use Rattle.qasm_reader.specs.Known.{known};
 ghost use Rattle.qasm_reader.specs.Pieces.{IsSource};
 
 use crate::bodies::{NOTHING, body_size, has_bad_body};
-use crate::definitions::{Found, found_by_name, found_by_value, found_nothing};
+use crate::definitions::{Found, found_by_name, found_by_value};
 use crate::expand::gate_qubits;
 use crate::forms::{Form, form_of};
 use crate::gates::Size;
@@ -31,16 +31,34 @@ pub struct Statement<'b, 'a> {
     pub body: Size,
 }
 
-/// The gate that a form applies, if it is known.
+/// The gate that a form applies, or no gate where it applies none that is known.
+fn gate_of<'a>(scan: &Scan<'a>, found: &Form<'a>) -> Found
+    requires { AreKept scan.now.definitions }
+    ensures size { result.size ≡ option_map size_of (gate_in (state scan.now).known (Some (form found.now))) }
+    ensures source { IsSource (meanings_behind known scan.now.definitions.list.items) scan.now.definitions.list.items (gate_in (state scan.now).known (Some (form found.now))) result.source }
+{
+    match found {
+        Form::Apply(name, _) => found_by_name(&scan.definitions, name),
+        Form::Turn(rotation, _) => found_by_value(rotation.value),
+        _ => Found {
+            size: None,
+            source: Source::Listed(&[]),
+        },
+    }
+}
+
+/// The gate that a form applies, if there is a form.
 fn gate_in<'a>(scan: &Scan<'a>, found: &Option<Form<'a>>) -> Found
     requires { AreKept scan.now.definitions }
     ensures size { result.size ≡ option_map size_of (gate_in (state scan.now).known (option_map form found.now)) }
     ensures source { IsSource (meanings_behind known scan.now.definitions.list.items) scan.now.definitions.list.items (gate_in (state scan.now).known (option_map form found.now)) result.source }
 {
     match found {
-        Some(Form::Apply(name, _)) => found_by_name(&scan.definitions, name),
-        Some(Form::Turn(rotation, _)) => found_by_value(rotation.value),
-        _ => found_nothing(),
+        Some(form) => gate_of(scan, form),
+        None => Found {
+            size: None,
+            source: Source::Listed(&[]),
+        },
     }
 }
 
