@@ -12,8 +12,6 @@ import sys
 TOP = pathlib.Path(__file__).resolve().parent.parent
 PROGRAM = TOP / "crates/tcount"
 NAME = pathlib.Path(sys.argv[0]).name
-# How the program ends where its words are no command.
-USAGE = 3
 
 
 def stored(name):
@@ -46,9 +44,11 @@ def call(words, room):
 def build(room, changes):
     """The path of the proved program with these changes, made in a copy that keeps what earlier checks proved."""
     copy_crates(room, changes)
-    done = call(["rt", "run"], room)
     program = room / "crates/tcount/out/tcount"
-    if done.returncode != USAGE or not program.exists():
+    program.unlink(missing_ok=True)
+    # It is run once without words, which reads nothing.
+    done = call(["rt", "run"], room)
+    if not program.exists():
         sys.exit(f"{NAME}: the changed program wasn't built\n{done.stdout}{done.stderr}")
     return program
 
