@@ -43,12 +43,16 @@ Accepts (OverText Check) text = (c d : Gates) × AreTaken text c d
 Accepts (Levels qubits top workers) text = ⊤
 Accepts (Bench qubits letters seed bound workers) text = ⊤
 
--- where the words are a command that accepts the source's content and no device failed, a run answers Found or Above, or
+-- where the words are a command that accepts the source's content and no device failed, the answer is Found or Above, or
 -- memory was wanting
-abbrev pub AnswersAreComplete : Type 0
-AnswersAreComplete = (words : List (List ℕ)) (source sink : Device) (status : Status) → Answers words source sink status → (Failed source → ⊥) → (Failed sink → ⊥)
+abbrev pub IsComplete : List (List ℕ) → Device → Device → Status → Type 0
+IsComplete words source sink status = (Failed source → ⊥) → (Failed sink → ⊥)
     → (text : List ℕ) → source.bytes_before ≡ Some text → (command : Command) → Spell words command → Accepts command text
     → (status ≡ Found) ⊎ ((status ≡ Above) ⊎ (status ≡ NoMemory))
+
+-- a run's answers are complete
+abbrev pub AnswersAreComplete : Type 0
+AnswersAreComplete = (words : List (List ℕ)) (source sink : Device) (status : Status) → Answers words source sink status → IsComplete words source sink status
 
 -- circuits of one matrix up to global phase, and so of one channel, are printed as the same bytes
 abbrev pub PrintedOnce : Type 0

@@ -214,6 +214,12 @@ fn refusals(rt: HostRuntime) -> Result<(), Fail> {
             "refused 12 at 25\n",
         ),
         ("0", "OPENQASM 2.0;\nqreg q[1];\n#\n", "refused 2 at 25\n"),
+        // The exporter's file again, with a measurement at its end.
+        (
+            "12",
+            "OPENQASM 2.0;\r\ninclude \"qelib1.inc\";\r\n// two qubits\r\nqreg q[2];\r\ncreg c[2];\r\nh q[0];\r\ncx q[0],q[1];\r\nbarrier q[0],q[1];\r\nt q[1];\r\nmeasure q -> c;\r\n",
+            "refused 11 at 130\n",
+        ),
         (
             "0",
             "OPENQASM 2.0;\nqreg q[1];\ngate g a { g a; }\n",
@@ -545,6 +551,23 @@ fn toffoli(rt: HostRuntime) -> Result<(), Fail> {
     assert_eq!(rt; status, Status::Found);
     assert!(rt; bytes.starts_with(b"// t-count 7\n// word "));
     assert!(rt; are_same(&rt, rt.alloc(), text, &bytes)?);
+    Ok(())
+}
+
+/// A Toffoli gate that the text defines is answered as the known one.
+#[test]
+fn toffoli_by_a_definition(rt: HostRuntime) -> Result<(), Fail> {
+    let known = b"OPENQASM 2.0;\nqreg q[3];\nccx q[0],q[1],q[2];\n".as_slice();
+    let defined =
+        b"OPENQASM 2.0;\nqreg q[3];\ngate tof a,b,c { h c; cx b,c; tdg c; cx a,c; t c; cx b,c; tdg c; cx a,c; t b; t c; h c; cx a,b; t a; tdg b; cx a,b; }\ntof q[0],q[1],q[2];\n".as_slice();
+    for (bound, status) in [("6", Status::Above), ("7", Status::Found)] {
+        let words = ["synth", bound, "4"];
+        let (first, bytes) = answer(&rt, rt.alloc(), &words, known, &OpenWay)?;
+        let (second, others) = answer(&rt, rt.alloc(), &words, defined, &OpenWay)?;
+        assert_eq!(rt; first, status);
+        assert_eq!(rt; second, status);
+        assert!(rt; bytes.as_slice() == others.as_slice());
+    }
     Ok(())
 }
 

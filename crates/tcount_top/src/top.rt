@@ -3,6 +3,7 @@ ghost use Rattle.std.specs.Prelude.{◌≡◌, ◌⊎◌, ◌<◌, ◌≤◌, �
 ghost use Rattle.tcount_top.specs.Words.{texts_of, SpellText, IsCommand, AskText, HasCrew};
 ghost use Rattle.tcount_top.specs.Out.{TextOut, longest, most_bound};
 ghost use Rattle.tcount_top.specs.Bench.{BenchOut};
+ghost use Rattle.tcount_top.specs.Laws.{IsComplete};
 ghost use Rattle.tcount_top.specs.Lines.{usage_line, levels_line};
 ghost use Rattle.tcount_top.specs.Run.{Answers, Responds};
 ghost use Rattle.coset_label.specs.Words.{most_letters};
@@ -10,6 +11,7 @@ ghost use Rattle.coset_label.specs.Words.{most_letters};
 use crate::bench::bench;
 use crate::check::check;
 use crate::command::{Command, TextCommand};
+use crate::laws::answers_are_complete;
 use crate::lines::{TOO_LONG, USAGE};
 use crate::sizes::sizes;
 use crate::synth::synth;
@@ -217,8 +219,7 @@ fn run_bench<H: Threads + Sync, K: Sink, G: Turnstile + Sync>(
 ///
 /// In its place comes [`Status::NoMemory`] at want of memory, [`Status::ReadFault`] where a read failed, both before the first
 /// byte is written, and [`Status::WriteFault`] where a write failed, behind a part of the outcome's bytes. Where no device
-/// failed and the command accepts the text, the answer is Found or Above, or memory was wanting
-/// ([`answers_are_complete`](crate::laws::answers_are_complete)). Words that are no command take no memory and read nothing.
+/// failed and the command accepts the text, the answer is Found or Above, or memory was wanting. Words that are no command take no memory and read nothing.
 pub fn run<H: Threads + Sync, S: Source, K: Sink, G: Turnstile + Sync>(
     th: &H,
     alloc: Global,
@@ -228,6 +229,21 @@ pub fn run<H: Threads + Sync, S: Source, K: Sink, G: Turnstile + Sync>(
     gate: &G,
 ) -> Status
     ensures answers { Answers (texts_of words.now)
+        (record {
+          bytes_before = S.left src.old;
+          bytes_after = S.left src.new;
+          faults_before = S.faults src.old;
+          faults_after = S.faults src.new;
+        })
+        (record {
+          bytes_before = K.written sink.old;
+          bytes_after = K.written sink.new;
+          faults_before = K.faults sink.old;
+          faults_after = K.faults sink.new;
+        }) result }
+
+    // Where the words are a command that accepts a source's content and no device failed, it is Found, Above or want of memory.
+    ensures complete { IsComplete (texts_of words.now)
         (record {
           bytes_before = S.left src.old;
           bytes_after = S.left src.new;
@@ -261,6 +277,8 @@ pub fn run<H: Threads + Sync, S: Source, K: Sink, G: Turnstile + Sync>(
     ensures reads { S.faults src.old ≤ S.faults src.new }
     ensures writes { K.faults sink.old ≤ K.faults sink.new }
 {
+    // Called for its contract: such answers are complete.
+    answers_are_complete();
     match Command::of_words(words) {
         Some(Command::OverText(command)) => run_over_text(th, alloc, command, src, sink, gate),
         Some(

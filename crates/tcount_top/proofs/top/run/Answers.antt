@@ -30,3 +30,15 @@ returns-in-None-clause-answers g c = usage_answers (texts_of c.args.words.now) _
 pub returns-in-None-clause-no_command : goal.returns-in-None-clause-no_command
 unfolding usage_line
 returns-in-None-clause-no_command g c = λ _. c.respond.ensures.responds
+
+pub returns-in-Some-OverText-clause-complete : goal.returns-in-Some-OverText-clause-complete
+returns-in-Some-OverText-clause-complete g c = c.answers_are_complete.ensures (texts_of c.args.words.now) _ _ _ (returns-in-Some-OverText-clause-answers g c)
+
+pub returns-in-Some-Levels-clause-complete : goal.returns-in-Some-Levels-clause-complete
+returns-in-Some-Levels-clause-complete g c = c.answers_are_complete.ensures (texts_of c.args.words.now) _ _ _ (returns-in-Some-Levels-clause-answers g c)
+
+pub returns-in-Some-Bench-clause-complete : goal.returns-in-Some-Bench-clause-complete
+returns-in-Some-Bench-clause-complete g c = c.answers_are_complete.ensures (texts_of c.args.words.now) _ _ _ (returns-in-Some-Bench-clause-answers g c)
+
+pub returns-in-None-clause-complete : goal.returns-in-None-clause-complete
+returns-in-None-clause-complete g c = c.answers_are_complete.ensures (texts_of c.args.words.now) _ _ _ (returns-in-None-clause-answers g c)
