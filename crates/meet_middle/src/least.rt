@@ -79,7 +79,7 @@ pub fn least_word<H: Threads + Sync, G: Turnstile + Sync>(
     ensures low { (k : ℕ) → length (levels_of levels.old) ≤ k + 1 → bound ≤ 2 * k + 1 → length (levels_of levels.new) ≤ k + 1 }
     ensures answer { IfOk result (IsAnswer target.now.qubits (scaled target.now) bound) }
 {
-    // There are from one to three.
+    // Called for its contract: there are from one to three qubits.
     let _qubits = target.qubits();
     if target.exponent() > bound as u32 {
         return Ok(Answer::Above);

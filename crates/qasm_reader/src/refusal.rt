@@ -1,6 +1,7 @@
 // The reasons for which a text is refused.
 
-/// Why a text is refused; the number of a reason is its discriminant.
+/// Why a text is refused; the number of a reason is its discriminant. Numbers 13 to 16 and 19 are no reasons of a reader: the
+/// top call refuses by 13 to 16 what it reads and can't answer, and 19 isn't used.
 #[derive(Clone, Copy)]
 pub enum Refusal {
     // The text doesn't begin with the header.

@@ -5,6 +5,7 @@
 -- Bounds: How large the entries grow.
 -- Same: Being the same up to a phase is an equivalence, which gates keep.
 -- Built: The matrix of a circuit, gate by gate.
+-- Counts: The T gates of lists of gates, for the crates above.
 pub mod Flips
 pub mod Gates
 pub mod Cells

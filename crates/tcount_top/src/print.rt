@@ -71,6 +71,7 @@ fn left_without(alloc: Global, channel: &Channel, letters: &[Pauli]) -> Result<C
     left.copy_from(channel);
     take_off(&mut left, letters);
     left.reduce();
+    // Called for its contract: what is left is a grid of a channel.
     let _grid = left.qubits();
     Ok(left)
 }
@@ -135,6 +136,7 @@ pub fn printed(alloc: Global, target: &Channel, word: &Word2) -> Result<Vec<u8>,
     let left = left_without(alloc, target, &letters)?;
     let blocks = blocks_of(alloc, target.qubits(), &letters)?;
     let mut circuit = rest(alloc, &left)?;
+    // Called for its contract: the gates are those of a circuit.
     let _rest = circuit.gates();
     push_all(&mut circuit, &blocks)?;
     text(alloc, &circuit, &letters)
