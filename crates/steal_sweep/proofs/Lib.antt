@@ -1,11 +1,11 @@
 -- What the files hold:
--- Views: the views of the seats: the sum of their parts, the least numbers that they know, and what they put
--- Dealt: the positions of dealt blocks
--- Found: from what all seats know to the least hit
--- Joined: one seat that takes in the seats of seekers
--- Leading: each step keeps the rule of the best word
--- Lists: lists and their images: what holds of each element, and sums
--- Ranges: positions that follow one another
+-- Views: The views of the seats: the sum of their parts, the least numbers that they know, and what they put.
+-- Dealt: The positions of dealt blocks.
+-- Found: From what all seats know to the least hit.
+-- Joined: One seat that takes in the seats of seekers.
+-- Leading: Each step keeps the rule of the best word.
+-- Lists: Lists and their images: what holds of each element, and sums.
+-- Ranges: Positions that follow one another.
 pub mod Views
 pub mod Dealt
 pub mod Found

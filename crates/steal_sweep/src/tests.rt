@@ -5,7 +5,7 @@ mod marks;
 mod rows;
 mod tables;
 
-use crate::OpenWay;
+use crate::{Delay, OpenWay};
 use gates::{Delays, Meeting, Turns, mix};
 use marks::mark;
 use rows::{first_in_rows, reads_of_one};
@@ -150,5 +150,24 @@ fn a_worker_passes_before_each_block(rt: HostRuntime) -> Result<(), Fail> {
     let shares = mark(&rt, rt.alloc(), 257, 64, 1, &gate)?;
     assert_eq!(rt; shares.len(), 1);
     assert_eq!(rt; gate.count(), Some(5));
+    Ok(())
+}
+
+/// A delay holds one worker up at one of its turns.
+#[test]
+fn one_turn_is_held_up(rt: HostRuntime) -> Result<(), Fail> {
+    let delay = Delay {
+        worker: 2,
+        turn: 5,
+        spins: 300,
+    };
+    // A worker, one of its turns, and how far it counts.
+    for (worker, turn, spins) in [(2, 5, 300), (1, 5, 0), (3, 5, 0), (2, 4, 0), (2, 6, 0)] {
+        assert_eq!(rt;
+            delay.spins_before(worker, turn),
+            spins,
+            "worker {worker} at turn {turn}"
+        );
+    }
     Ok(())
 }

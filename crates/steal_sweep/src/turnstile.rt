@@ -1,4 +1,6 @@
 // What a worker passes before each block.
+ghost use Rattle.std.specs.Prelude.{◌≡◌, ◌≢◌};
+
 use std::hint::spin_loop;
 
 /// What a worker passes before each block that it has taken. It returns, and nothing that it does changes an answer.
@@ -28,13 +30,26 @@ pub struct Delay {
     pub spins: u32,
 }
 
-impl Turnstile for Delay {
-    /// Counts where it is the worker and the turn that is held up.
-    fn pass(&self, worker: u32, turn: u64) {
+impl Delay {
+    /// How far a worker counts before one of its blocks: 0 but where it is the worker and the turn that is held up.
+    pub fn spins_before(&self, worker: u32, turn: u64) -> u32
+        ensures held { worker ≡ self.now.worker → turn ≡ self.now.turn → result ≡ self.now.spins }
+        ensures other_worker { worker ≢ self.now.worker → result ≡ 0 }
+        ensures other_turn { turn ≢ self.now.turn → result ≡ 0 }
+    {
         if worker == self.worker && turn == self.turn {
-            for _ in 0..self.spins {
-                spin_loop();
-            }
+            self.spins
+        } else {
+            0
+        }
+    }
+}
+
+impl Turnstile for Delay {
+    /// Counts as far as it is to before the block.
+    fn pass(&self, worker: u32, turn: u64) {
+        for _ in 0..self.spins_before(worker, turn) {
+            spin_loop();
         }
     }
 }
