@@ -1,21 +1,10 @@
-ghost use Rattle.std.specs.Prelude.{◌≡◌, ◌<◌, ◌≤◌, All, IfOk, IsTrue};
-ghost use Rattle.tc_circuit.specs.Gate.{Fits};
+ghost use Rattle.std.specs.Prelude.{◌≡◌, ◌<◌, ◌≤◌, All, IfOk};
 
 use crate::text;
 use pauli_basis::Pauli;
 use std::alloc::Global;
 use std::test::Fail;
 use tc_circuit::{Circuit, Gate};
-
-/// Whether a gate is one of so many qubits.
-fn fits(n: u8, gate: Gate) -> bool
-    ensures { IsTrue result → Fits n gate }
-{
-    match gate {
-        Gate::H(q) | Gate::S(q) | Gate::Sdg(q) | Gate::T(q) | Gate::Tdg(q) => q < n,
-        Gate::Cx(control, target) => control < n && target < n && control != target,
-    }
-}
 
 /// The circuit of these gates, which have to fit.
 fn circuit(alloc: Global, n: u8, gates: &[Gate]) -> Result<Circuit, Fail>
@@ -25,7 +14,7 @@ fn circuit(alloc: Global, n: u8, gates: &[Gate]) -> Result<Circuit, Fail>
 {
     let mut circuit = Circuit::new(alloc, n);
     for gate in gates {
-        if !fits(n, *gate) {
+        if !gate.fits(n) {
             Err("no such gate")?;
         } else {
             circuit.push(*gate)?;

@@ -1,4 +1,4 @@
-ghost use Rattle.std.specs.Prelude.{◌≡◌, ◌^◌, ◌<◌, ◌≤◌, IfOk, IsTrue};
+ghost use Rattle.std.specs.Prelude.{◌≡◌, ◌^◌, ◌<◌, ◌≤◌, IfOk};
 ghost use Rattle.tc_circuit.specs.Gate.{Fits};
 ghost use Rattle.tc_circuit.specs.Model.{t_count_of};
 ghost use Rattle.channel_rep.specs.Cells.{scaled, IsSignedPermutation};
@@ -14,16 +14,6 @@ use std::test::Fail;
 use tc_bridge::channel_of;
 use tc_circuit::{Circuit, Gate};
 
-/// Whether a gate's qubits are below n, and those of cx differ.
-fn fits(n: u8, gate: Gate) -> bool
-    ensures { IsTrue result → Fits n gate }
-{
-    match gate {
-        Gate::H(q) | Gate::S(q) | Gate::Sdg(q) | Gate::T(q) | Gate::Tdg(q) => q < n,
-        Gate::Cx(control, target) => control < n && target < n && control != target,
-    }
-}
-
 /// The channel of gates on n qubits, which are to be without T gates.
 fn channel(rt: &impl Abort, alloc: Global, n: u8, gates: &[Gate]) -> Result<Channel, Fail>
     requires some { 0 < n }
@@ -34,7 +24,7 @@ fn channel(rt: &impl Abort, alloc: Global, n: u8, gates: &[Gate]) -> Result<Chan
 {
     let mut circuit = Circuit::new(alloc, n);
     for gate in gates {
-        assert!(rt; fits(n, *gate), "{gate:?} of {n} qubits");
+        assert!(rt; gate.fits(n), "{gate:?} of {n} qubits");
         circuit.push(*gate)?;
     }
     assert!(rt; circuit.gates().len() < 1000);

@@ -1,6 +1,5 @@
 // Pairs of circuits: by hand, and made from numbers and compared plainly, entry by entry.
-ghost use Rattle.std.specs.Prelude.{◌≡◌, ◌<◌, ◌≤◌, IfOk, IsTrue};
-ghost use Rattle.tc_circuit.specs.Gate.{Fits};
+ghost use Rattle.std.specs.Prelude.{◌≡◌, ◌<◌, IfOk};
 
 use crate::{CheckFault, same};
 use std::alloc::{AllocError, Global};
@@ -10,16 +9,6 @@ use tc_circuit::Gate::{self, Cx, H, S, Sdg, T, Tdg};
 use tc_circuit::{Circuit, Matrix};
 use tc_ring::Omega;
 
-/// Whether a gate's qubits are below n, and those of a cx differ.
-fn fits(n: u8, gate: Gate) -> bool
-    ensures { IsTrue result → Fits n gate }
-{
-    match gate {
-        H(q) | S(q) | Sdg(q) | T(q) | Tdg(q) => q < n,
-        Cx(control, target) => control < n && target < n && control != target,
-    }
-}
-
 /// The circuit of the gates.
 fn circuit_of(rt: &impl Abort, alloc: Global, n: u8, gates: &[Gate]) -> Result<Circuit, AllocError>
     ensures { IfOk result (λ c. c.qubits ≡ n) }
@@ -27,7 +16,7 @@ fn circuit_of(rt: &impl Abort, alloc: Global, n: u8, gates: &[Gate]) -> Result<C
     assert!(rt; 0 < n && n <= 3);
     let mut circuit = Circuit::new(alloc, n);
     for gate in gates {
-        assert!(rt; fits(n, *gate));
+        assert!(rt; gate.fits(n));
         circuit.push(*gate)?;
     }
     Ok(circuit)
@@ -231,7 +220,7 @@ fn matrix_of(rt: &impl Abort, alloc: Global, n: u8, gates: &[Gate]) -> Result<Ma
     assert!(rt; 0 < n && n <= 3);
     let mut matrix = Matrix::identity(alloc, n)?;
     for gate in gates {
-        assert!(rt; fits(n, *gate) && matrix.exponent() < 120);
+        assert!(rt; gate.fits(n) && matrix.exponent() < 120);
         matrix.apply(*gate);
     }
     Ok(matrix)

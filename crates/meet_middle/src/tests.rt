@@ -1,7 +1,6 @@
-ghost use Rattle.std.specs.Prelude.{◌≡◌, ◌*◌, ◌<◌, ◌≤◌, IsTrue, IfOk};
+ghost use Rattle.std.specs.Prelude.{◌≡◌, ◌*◌, ◌<◌, ◌≤◌, IfOk};
 ghost use Rattle.channel_rep.specs.Cells.{most_exponent};
 ghost use Rattle.coset_label.specs.Words.{most_letters};
-ghost use Rattle.tc_circuit.specs.Gate.{Fits};
 ghost use Rattle.tc_circuit.specs.Model.{t_count_of};
 
 use crate::{Answer, Word2, least_word};
@@ -15,16 +14,6 @@ use steal_sweep::OpenWay;
 use tc_bridge::channel_of;
 use tc_circuit::{Circuit, Gate};
 
-/// Whether a gate's qubits are below n, and those of a cx differ.
-fn fits(n: u8, gate: Gate) -> bool
-    ensures { IsTrue result → Fits n gate }
-{
-    match gate {
-        Gate::H(q) | Gate::S(q) | Gate::Sdg(q) | Gate::T(q) | Gate::Tdg(q) => q < n,
-        Gate::Cx(control, target) => control < n && target < n && control != target,
-    }
-}
-
 /// A circuit of gates, with few T gates.
 fn circuit_of(rt: &impl Abort, alloc: Global, n: u8, gates: &[Gate]) -> Result<Circuit, AllocError>
     requires some { 0 < n }
@@ -34,7 +23,7 @@ fn circuit_of(rt: &impl Abort, alloc: Global, n: u8, gates: &[Gate]) -> Result<C
 {
     let mut circuit = Circuit::new(alloc, n);
     for gate in gates {
-        assert!(rt; fits(n, *gate));
+        assert!(rt; gate.fits(n));
         circuit.push(*gate)?;
     }
     assert!(rt; circuit.gates().len() <= 1_000);

@@ -1,5 +1,5 @@
 // Circuits through the code: printed, read, and printed again.
-ghost use Rattle.std.specs.Prelude.{◌≡◌, ◌<◌, ◌≤◌, All, IfOk, IsTrue};
+ghost use Rattle.std.specs.Prelude.{◌≡◌, ◌<◌, ◌≤◌, All, IfOk};
 ghost use Rattle.tc_circuit.specs.Gate.{Fits};
 
 use crate::printed_texts_read_back;
@@ -11,16 +11,6 @@ use std::test::Fail;
 use tc_circuit::Circuit;
 use tc_circuit::Gate::{self, Cx, H, S, Sdg, T, Tdg};
 
-/// Whether a gate is one of so many qubits.
-fn fits(n: u8, gate: Gate) -> bool
-    ensures { IsTrue result → Fits n gate }
-{
-    match gate {
-        H(q) | S(q) | Sdg(q) | T(q) | Tdg(q) => q < n,
-        Cx(control, target) => control < n && target < n && control != target,
-    }
-}
-
 /// The circuit of these gates, which have to fit.
 fn circuit(alloc: Global, n: u8, gates: &[Gate]) -> Result<Circuit, Fail>
     requires some { 0 < n }
@@ -29,7 +19,7 @@ fn circuit(alloc: Global, n: u8, gates: &[Gate]) -> Result<Circuit, Fail>
 {
     let mut circuit = Circuit::new(alloc, n);
     for gate in gates {
-        if !fits(n, *gate) {
+        if !gate.fits(n) {
             Err("no such gate")?;
         } else {
             circuit.push(*gate)?;

@@ -1,5 +1,4 @@
-ghost use Rattle.std.specs.Prelude.{◌≡◌, ℕ, ◌+◌, ◌^◌, ◌<◌, ◌≤◌, length, IsTrue, IfOk};
-ghost use Rattle.tc_circuit.specs.Gate.{Fits};
+ghost use Rattle.std.specs.Prelude.{◌≡◌, ◌+◌, ◌^◌, ◌<◌, ◌≤◌, IfOk};
 
 use crate::{channel_of, laws, rotation_gates};
 use channel_rep::MOST_EXPONENT;
@@ -20,23 +19,13 @@ fn number_of(x: Omega) -> Number {
     Number(x0, x1, x2, x3)
 }
 
-/// Whether a gate's qubits are below n, and those of a cx differ.
-fn fits(n: u8, gate: Gate) -> bool
-    ensures { IsTrue result → Fits n gate }
-{
-    match gate {
-        Gate::H(q) | Gate::S(q) | Gate::Sdg(q) | Gate::T(q) | Gate::Tdg(q) => q < n,
-        Gate::Cx(control, target) => control < n && target < n && control != target,
-    }
-}
-
 /// The matrix of gates on three qubits.
 fn matrix_of(rt: &impl Abort, alloc: Global, gates: &[Gate]) -> Result<Matrix, AllocError>
     ensures { IfOk result (λ m. m.qubits ≡ 3) }
 {
     let mut m = Matrix::identity(alloc, 3)?;
     for gate in gates {
-        assert!(rt; fits(3, *gate));
+        assert!(rt; gate.fits(3));
         assert!(rt; m.exponent() < 120);
         m.apply(*gate);
     }
@@ -152,7 +141,7 @@ fn circuit_of(rt: &impl Abort, alloc: Global, n: u8, gates: &[Gate]) -> Result<C
 {
     let mut c = Circuit::new(alloc, n);
     for gate in gates {
-        assert!(rt; fits(n, *gate));
+        assert!(rt; gate.fits(n));
         c.push(*gate)?;
     }
     Ok(c)

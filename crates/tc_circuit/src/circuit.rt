@@ -1,4 +1,4 @@
-ghost use Rattle.std.specs.Prelude.{◌≡◌, ℕ, ◌+◌, ◌^◌, ◌<◌, ◌≤◌, [], ◌∷◌, ◌++◌, length, OnOk, OnErr};
+ghost use Rattle.std.specs.Prelude.{◌≡◌, IsTrue, ℕ, ◌+◌, ◌^◌, ◌<◌, ◌≤◌, [], ◌∷◌, ◌++◌, length, OnOk, OnErr};
 ghost use Rattle.tc_circuit.specs.Model.{t_count_of};
 
 use std::alloc::{AllocError, Global};
@@ -19,6 +19,21 @@ pub enum Gate {
     Tdg(u8),
     /// The controlled not, with the control first.
     Cx(u8, u8),
+}
+
+impl Gate {
+    ghost use Rattle.tc_circuit.specs.Gate.{Fits};
+
+    /// Whether the gate is one of n qubits: its qubits are below n, and those of a cx differ.
+    pub fn fits(self, n: u8) -> bool
+        ensures fits { IsTrue result → Fits n self }
+        ensures told { Fits n self → IsTrue result }
+    {
+        match self {
+            Gate::H(q) | Gate::S(q) | Gate::Sdg(q) | Gate::T(q) | Gate::Tdg(q) => q < n,
+            Gate::Cx(control, target) => control < n && target < n && control != target,
+        }
+    }
 }
 
 /// How many of the gates are t or tdg.

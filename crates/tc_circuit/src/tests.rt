@@ -26,6 +26,23 @@ fn exponent(alloc: Global, gate: Gate) -> Result<u32, AllocError>
     Ok(matrix.exponent())
 }
 
+/// Gates, and whether they are of two qubits.
+#[test]
+fn gates_fit_qubits(rt: HostRuntime) -> Result<(), Fail> {
+    let rows = [
+        (Gate::T(1), true),
+        (Gate::H(2), false),
+        (Gate::Cx(0, 1), true),
+        (Gate::Cx(1, 1), false),
+        (Gate::Cx(2, 0), false),
+        (Gate::Cx(0, 2), false),
+    ];
+    for (gate, fits) in rows {
+        assert_eq!(rt; gate.fits(2), fits, "{gate:?}");
+    }
+    Ok(())
+}
+
 /// A circuit keeps its gates in order, and counts those of a kind.
 #[test]
 fn circuit_calls(rt: HostRuntime) -> Result<(), Fail> {

@@ -119,77 +119,18 @@ fn look_before(
     Ok(more)
 }
 
-/// Looks before words on so many qubits, given by the codes of their letters.
-fn look_before_words(alloc: Global, n: u8, words: &[[u8; 8]]) -> Result<Seen, Fail>
-    requires some { 0 < n }
-    requires few { n ≤ 3 }
-{
-    let mut suffix = Suffix::new(alloc, n)?;
-    let mut label = Scratch::new(alloc, n)?;
-    let mut seen = Seen::nothing();
-    for codes in words {
-        seen = look_before(&mut suffix, word(n, codes)?, &mut label, seen)?;
-    }
-    Ok(seen)
+/// A number that seems random (the mixing step of SplitMix64).
+fn mix(number: u64) -> u64 {
+    let mut z = number.wrapping_mul(0x9e37_79b9_7f4a_7c15);
+    z = (z ^ (z >> 30)).wrapping_mul(0xbf58_476d_1ce4_e5b9);
+    z = (z ^ (z >> 27)).wrapping_mul(0x94d0_49bb_1331_11eb);
+    z ^ (z >> 31)
 }
 
-/// Before short words on two qubits the quick way is taken, and its marks are those of labels.
-#[test]
-fn letters_before_short_words_have_marks_of_labels(rt: HostRuntime) -> Result<(), Fail> {
-    // All words of up to two letters on two qubits.
-    let mut words = [[0u8; 8]; 256];
-    for number in 0..256usize {
-        words[number] = [(number / 16) as u8, (number % 16) as u8, 0, 0, 0, 0, 0, 0];
-    }
-    let seen = look_before_words(rt.alloc(), 2, &words)?;
-    assert_eq!(rt; seen.letters, 3840);
-    assert!(rt; !seen.other);
-    assert!(rt; !seen.slow);
-    assert!(rt; seen.fallen & seen.same & seen.risen);
-    Ok(())
-}
-
-/// The next number of a sequence that looks random.
-fn next(random: u64) -> u64 {
-    random
-        .wrapping_mul(6364136223846793005)
-        .wrapping_add(1442695040888963407)
-}
-
-/// Codes of up to three letters on three qubits. Often the last is that of the first letter, or of its product with the second.
-fn short_codes(random: u64) -> [u8; 8] {
-    let high = random / 0x1_0000_0000;
-    let first = (high % 64) as u8;
-    let second = (high / 64 % 64) as u8;
-    let third = match high / 4096 % 4 {
-        0 => first,
-        1 => first ^ second,
-        _ => (high / 16384 % 64) as u8,
-    };
-    [first, second, third, 0, 0, 0, 0, 0]
-}
-
-/// Before words on three qubits the quick way is taken, and its marks are those of labels.
-#[test]
-fn letters_before_words_on_three_qubits_have_marks_of_labels(rt: HostRuntime) -> Result<(), Fail> {
-    let mut words = [[0u8; 8]; 100];
-    let mut random = 1;
-    for place in 0..100usize {
-        random = next(random);
-        words[place] = short_codes(random);
-    }
-    let seen = look_before_words(rt.alloc(), 3, &words)?;
-    assert_eq!(rt; seen.letters, 6300);
-    assert!(rt; !seen.other);
-    assert!(rt; !seen.slow);
-    assert!(rt; seen.fallen & seen.same & seen.risen);
-    Ok(())
-}
-
-/// Codes of up to eight letters on one qubit. Mostly neighbours differ.
-fn long_codes(random: u64) -> [u8; 8] {
+/// Codes of up to eight letters on one qubit, where 0 stands for none. Mostly neighbours differ.
+fn long_codes(number: u64) -> [u8; 8] {
     let mut codes = [0u8; 8];
-    let mut left = random / 0x1_0000_0000;
+    let mut left = mix(number);
     let count = (left % 16) as usize;
     let mut code = 0u8;
     for place in 0..8usize {
@@ -202,19 +143,77 @@ fn long_codes(random: u64) -> [u8; 8] {
     codes
 }
 
+/// Codes of up to two letters on two qubits: for the numbers below 256 all there are.
+fn all_codes(number: u64) -> [u8; 8] {
+    [(number / 16 % 16) as u8, (number % 16) as u8, 0, 0, 0, 0, 0, 0]
+}
+
+/// Codes of up to three letters on three qubits. Often the last is that of the first letter, or of its product with the second.
+fn short_codes(number: u64) -> [u8; 8] {
+    let random = mix(number);
+    let first = (random % 64) as u8;
+    let second = (random / 64 % 64) as u8;
+    let third = match random / 4096 % 4 {
+        0 => first,
+        1 => first ^ second,
+        _ => (random / 16384 % 64) as u8,
+    };
+    [first, second, third, 0, 0, 0, 0, 0]
+}
+
+/// The codes of the letters of a word on n qubits, by its number.
+fn codes_by(n: u8, number: u64) -> [u8; 8] {
+    match n {
+        1 => long_codes(number),
+        2 => all_codes(number),
+        _ => short_codes(number),
+    }
+}
+
+/// Looks before so many words on n qubits.
+fn look_before_words(alloc: Global, n: u8, words: u64) -> Result<Seen, Fail>
+    requires some { 0 < n }
+    requires few { n ≤ 3 }
+{
+    let mut suffix = Suffix::new(alloc, n)?;
+    let mut label = Scratch::new(alloc, n)?;
+    let mut seen = Seen::nothing();
+    for number in 0..words {
+        let w = word(n, &codes_by(n, number))?;
+        seen = look_before(&mut suffix, w, &mut label, seen)?;
+    }
+    Ok(seen)
+}
+
 /// Before long words on one qubit both ways are taken, and the marks are those of labels.
 #[test]
 fn letters_before_long_words_have_marks_of_labels(rt: HostRuntime) -> Result<(), Fail> {
-    let mut words = [[0u8; 8]; 200];
-    let mut random = 1;
-    for place in 0..200usize {
-        random = next(random);
-        words[place] = long_codes(random);
-    }
-    let seen = look_before_words(rt.alloc(), 1, &words)?;
+    let seen = look_before_words(rt.alloc(), 1, 200)?;
     assert_eq!(rt; seen.letters, 600);
     assert!(rt; !seen.other);
     assert!(rt; seen.slow);
     assert!(rt; seen.fallen & seen.risen);
+    Ok(())
+}
+
+/// Before all words of up to two letters on two qubits the quick way is taken, and its marks are those of labels.
+#[test]
+fn letters_before_short_words_have_marks_of_labels(rt: HostRuntime) -> Result<(), Fail> {
+    let seen = look_before_words(rt.alloc(), 2, 256)?;
+    assert_eq!(rt; seen.letters, 3840);
+    assert!(rt; !seen.other);
+    assert!(rt; !seen.slow);
+    assert!(rt; seen.fallen & seen.same & seen.risen);
+    Ok(())
+}
+
+/// Before words on three qubits the quick way is taken, and its marks are those of labels.
+#[test]
+fn letters_before_words_on_three_qubits_have_marks_of_labels(rt: HostRuntime) -> Result<(), Fail> {
+    let seen = look_before_words(rt.alloc(), 3, 100)?;
+    assert_eq!(rt; seen.letters, 6300);
+    assert!(rt; !seen.other);
+    assert!(rt; !seen.slow);
+    assert!(rt; seen.fallen & seen.same & seen.risen);
     Ok(())
 }

@@ -1,8 +1,8 @@
 use Rattle.std.proofs.Common.{◌≡◌}
 use Rattle.quick_label.proofs.tests.marks.look_before_words.Given as goal
 
-abbrev pub invariant-loop-codes : goal.invariant-loop-codes
-invariant-loop-codes l = record {
+abbrev pub invariant-loop-number : goal.invariant-loop-number
+invariant-loop-number l = record {
   suffix : l.suffix.qubits ≡ l.n;
   label : l.label.qubits ≡ l.n;
 }
