@@ -12,33 +12,42 @@ fn mark_before(alloc: Global, n: u8, codes: &[u8], code: u8) -> Result<Mark, Fai
     requires some { 0 < n }
     requires few { n ≤ 3 }
 {
+    let w = word(n, codes)?;
+    let p = letter(n, code)?;
     let mut suffix = Suffix::new(alloc, n)?;
     let mut label = Scratch::new(alloc, n)?;
-    let w = word(n, codes)?;
     suffix.turn_to(w);
-    if suffix.word() != w {
-        return Err(Fail::from("another word"));
-    }
-    Ok(suffix.mark_with(letter(n, code)?, &mut label))
+    Ok(suffix.mark_with(p, &mut label))
 }
+
+/// A suffix has the word at hand to which it was turned.
+#[test]
+fn suffix_turns_to_a_word(rt: HostRuntime) -> Result<(), Fail> {
+    let w = word(2, &[3, 12])?;
+    let mut suffix = Suffix::new(rt.alloc(), 2)?;
+    suffix.turn_to(w);
+    assert_eq!(rt; suffix.word().letters(), w.letters());
+    Ok(())
+}
+
+/// Qubits, a word, the letter before it, exponent and tag, by complex matrices and the plain fold outside this program.
+const MARKS: [(u8, &[u8], u8, u32, u64); 10] = [
+    (1, &[], 3, 1, 70201673963),
+    (1, &[3], 3, 0, 146324906256),
+    (1, &[3], 1, 2, 131779219126),
+    (1, &[2, 3, 1, 2, 3, 1, 2, 3], 1, 9, 165351431703),
+    (2, &[3], 15, 2, 216091606719),
+    (2, &[15], 3, 2, 216091606719),
+    (2, &[3], 1, 2, 95058180414),
+    (2, &[6, 11, 12, 7, 9], 1, 6, 232785570628),
+    (3, &[54], 27, 2, 115606003082),
+    (3, &[27, 54], 27, 1, 263531717110),
+];
 
 /// Marks that were made outside this program.
 #[test]
 fn letters_before_words_have_these_marks(rt: HostRuntime) -> Result<(), Fail> {
-    // Qubits, a word, the letter before it, exponent and tag, by complex matrices and the plain fold outside this program.
-    let rows: [(u8, &[u8], u8, u32, u64); 10] = [
-        (1, &[], 3, 1, 70201673963),
-        (1, &[3], 3, 0, 146324906256),
-        (1, &[3], 1, 2, 131779219126),
-        (1, &[2, 3, 1, 2, 3, 1, 2, 3], 1, 9, 165351431703),
-        (2, &[3], 15, 2, 216091606719),
-        (2, &[15], 3, 2, 216091606719),
-        (2, &[3], 1, 2, 95058180414),
-        (2, &[6, 11, 12, 7, 9], 1, 6, 232785570628),
-        (3, &[54], 27, 2, 115606003082),
-        (3, &[27, 54], 27, 1, 263531717110),
-    ];
-    for (n, codes, code, exponent, tag) in rows {
+    for (n, codes, code, exponent, tag) in MARKS {
         if 0 < n && n <= 3 {
             let mark = mark_before(rt.alloc(), n, codes, code)?;
             assert_eq!(rt; mark.exponent, exponent, "{code} before {codes:?}");
@@ -145,7 +154,16 @@ fn long_codes(number: u64) -> [u8; 8] {
 
 /// Codes of up to two letters on two qubits: for the numbers below 256 all there are.
 fn all_codes(number: u64) -> [u8; 8] {
-    [(number / 16 % 16) as u8, (number % 16) as u8, 0, 0, 0, 0, 0, 0]
+    [
+        (number / 16 % 16) as u8,
+        (number % 16) as u8,
+        0,
+        0,
+        0,
+        0,
+        0,
+        0,
+    ]
 }
 
 /// Codes of up to three letters on three qubits. Often the last is that of the first letter, or of its product with the second.
