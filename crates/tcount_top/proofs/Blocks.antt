@@ -1,5 +1,5 @@
 -- The gates of a word: they fit its qubits, and are few.
-use Rattle.std.proofs.Common.{◌≡◌, ℕ, zero, suc, ◌+◌, ◌*◌, ◌<◌, ◌≤◌, Bool, true, false, List, [], ◌∷◌, ◌++◌, length, refl, ap, arith, length-append}
+use Rattle.std.proofs.Common.{◌≡◌, ℕ, zero, suc, ◌+◌, ◌*◌, ◌<◌, ◌≤◌, Bool, true, false, List, [], ◌∷◌, ◌++◌, length, refl, arith, length-append}
 use Rattle.std.specs.Prelude.{◌==◌, ◌||◌, if◌then◌else◌}
 use Rattle.std.specs.List.{AllByRecursion}
 use Rattle.std.proofs.lemmas.Bool.{eqb-false}
@@ -8,16 +8,12 @@ use Rattle.tc_circuit.specs.Model.{IsCircuit}
 use Rattle.tc_circuit.specs.declared.circuit.Gate.{Gate}
 use Rattle.pauli_basis.specs.Letters.{letter_of}
 use Rattle.channel_rep.specs.declared.gate.ChannelGate.{ChannelGate}
-use Rattle.channel_rep.specs.declared.gate.ChannelGate.TheVariants.{H, S, Sdg, Cx}
+use Rattle.channel_rep.specs.declared.gate.ChannelGate.TheVariants.{Cx}
 use Rattle.channel_rep.specs.Gates.{GateFits}
-use Rattle.tc_bridge.specs.Block.{as_gate, as_gates, inverse_gate, undone, letter_to_z, to_z, highest, gather, rising, opening, block, word_gates}
-use Rattle.tc_bridge.proofs.Conjugations.{length-as_gates, length-undone}
+use Rattle.tc_bridge.specs.Block.{as_gates, undone, letter_to_z, to_z, highest, gather, rising, opening, block, word_gates}
+use Rattle.tc_bridge.proofs.Conjugations.{all-append, gate_fits, undone_fits, length-as_gates, length-undone}
 
 -- ---- they fit
-all_append : {X : Type 0} → (P : X → Type 0) (xs ys : List X) → AllByRecursion P xs → AllByRecursion P ys → AllByRecursion P (xs ++ ys)
-all_append P [] ys hx hy = hy
-all_append P (x ∷ xs) ys hx hy = (hx.0, all_append P xs ys hx.1 hy)
-
 letter_fits : (n q l : ℕ) → q < n → AllByRecursion (GateFits n) (letter_to_z q l)
 letter_fits n q zero h = tt
 letter_fits n q (suc zero) h = (h, tt)
@@ -34,7 +30,7 @@ gather_fits n z p q hz hq = by (letter_of q p == 0) (q == z) refl
 
 rising_fits : (n : ℕ) (f : ℕ → List ChannelGate) → ((q : ℕ) → q < n → AllByRecursion (GateFits n) (f q)) → (count q : ℕ) → q + count ≤ n → AllByRecursion (GateFits n) (rising f count q)
 rising_fits n f h zero q l = tt
-rising_fits n f h (suc count) q l = all_append (GateFits n) (f q) (rising f count (suc q)) (h q (omega (arith, l))) (rising_fits n f h count (suc q) (omega (arith, l)))
+rising_fits n f h (suc count) q l = all-append (GateFits n) (f q) (rising f count (suc q)) (h q (omega (arith, l))) (rising_fits n f h count (suc q) (omega (arith, l)))
 
 highest_within : (count p : ℕ) → highest count p ≤ count
 highest_within zero p = omega arith
@@ -54,39 +50,23 @@ highest_below (suc q) p h = by (letter_of q p == 0)
 
 opening_fits : (n p : ℕ) → 0 < n → AllByRecursion (GateFits n) (opening n p)
 opening_fits n p some =
-    all_append (GateFits n) (rising (to_z p) n 0) (rising (gather (highest n p) p) n 0)
+    all-append (GateFits n) (rising (to_z p) n 0) (rising (gather (highest n p) p) n 0)
     (rising_fits n (to_z p) (λ q h. letter_fits n q (letter_of q p) h) n 0 (omega arith))
     (rising_fits n (gather (highest n p) p) (λ q h. gather_fits n (highest n p) p q (highest_below n p some) h) n 0 (omega arith))
-
-gate_fits : (n : ℕ) (g : ChannelGate) → GateFits n g → circuit.Fits n (as_gate g)
-gate_fits n (H q) h = h
-gate_fits n (S q) h = h
-gate_fits n (Sdg q) h = h
-gate_fits n (Cx control target) h = h
 
 gates_fit : (n : ℕ) (gates : List ChannelGate) → AllByRecursion (GateFits n) gates → IsCircuit n (as_gates gates)
 gates_fit n [] h = tt
 gates_fit n (g ∷ gates) h = (gate_fits n g h.0, gates_fit n gates h.1)
 
-inverse_fits : (n : ℕ) (g : ChannelGate) → GateFits n g → GateFits n (inverse_gate g)
-inverse_fits n (H q) h = h
-inverse_fits n (S q) h = h
-inverse_fits n (Sdg q) h = h
-inverse_fits n (Cx control target) h = h
-
-undone_fits : (n : ℕ) (gates : List ChannelGate) → AllByRecursion (GateFits n) gates → AllByRecursion (GateFits n) (undone gates)
-undone_fits n [] h = tt
-undone_fits n (g ∷ gates) h = all_append (GateFits n) (undone gates) (inverse_gate g ∷ []) (undone_fits n gates h.1) (inverse_fits n g h.0, tt)
-
 block_fits : (n p : ℕ) → 0 < n → IsCircuit n (block n p)
 block_fits n p some =
     let front = opening_fits n p some in
-    all_append (circuit.Fits n) (as_gates (opening n p)) (Gate.T (highest n p) ∷ as_gates (undone (opening n p))) (gates_fit n (opening n p) front)
+    all-append (circuit.Fits n) (as_gates (opening n p)) (Gate.T (highest n p) ∷ as_gates (undone (opening n p))) (gates_fit n (opening n p) front)
     (highest_below n p some, gates_fit n (undone (opening n p)) (undone_fits n (opening n p) front))
 
 pub word_fits : (n : ℕ) → 0 < n → (word : List ℕ) → IsCircuit n (word_gates n word)
 word_fits n some [] = tt
-word_fits n some (p ∷ word) = all_append (circuit.Fits n) (word_gates n word) (block n p) (word_fits n some word) (block_fits n p some)
+word_fits n some (p ∷ word) = all-append (circuit.Fits n) (word_gates n word) (block n p) (word_fits n some word) (block_fits n p some)
 
 -- ---- they are few
 short_letter : (q l : ℕ) → length (letter_to_z q l) ≤ 2

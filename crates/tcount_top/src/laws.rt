@@ -1,6 +1,7 @@
 //! What holds of the outcomes.
 //!
 //! Each of these functions does nothing. Its contract is the law, for a caller's proof to use.
+ghost use Rattle.meet_laws.specs.Laws.{LeastCountsAreLengths};
 ghost use Rattle.tcount_top.specs.Laws.{OneCommand, OneOutcome, OutcomesExist, PrintedOnce, LeastCountsExist, OneAnswerForOneMatrix, AnswersAreComplete};
 
 use channel_rep::laws::tables_compare;
@@ -54,6 +55,14 @@ pub fn one_outcome()
     least_counts_are_lengths();
     printed_once();
     cosets_have_least_words();
+}
+
+/// The least T-count of a circuit is t exactly where the least word in the coset of its channel has t letters.
+pub fn least_counts_are_those_of_words()
+    ensures { LeastCountsAreLengths }
+{
+    // Called for its contract, which says so of every circuit.
+    least_counts_are_lengths();
 }
 
 /// Words that are a command have an outcome for each text: with [`one_outcome`] exactly one.
