@@ -7,29 +7,6 @@ use coset_words::{Mark, mark_of};
 use std::alloc::Global;
 use std::test::Fail;
 
-/// The mark of a word with a letter before it.
-fn mark_before(alloc: Global, n: u8, codes: &[u8], code: u8) -> Result<Mark, Fail>
-    requires some { 0 < n }
-    requires few { n ≤ 3 }
-{
-    let w = word(n, codes)?;
-    let p = letter(n, code)?;
-    let mut suffix = Suffix::new(alloc, n)?;
-    let mut label = Scratch::new(alloc, n)?;
-    suffix.turn_to(w);
-    Ok(suffix.mark_with(p, &mut label))
-}
-
-/// A suffix has the word at hand to which it was turned.
-#[test]
-fn suffix_turns_to_a_word(rt: HostRuntime) -> Result<(), Fail> {
-    let w = word(2, &[3, 12])?;
-    let mut suffix = Suffix::new(rt.alloc(), 2)?;
-    suffix.turn_to(w);
-    assert_eq!(rt; suffix.word().letters(), w.letters());
-    Ok(())
-}
-
 /// Qubits, a word, the letter before it, exponent and tag, by complex matrices and the plain fold outside this program.
 const MARKS: [(u8, &[u8], u8, u32, u64); 10] = [
     (1, &[], 3, 1, 70201673963),
@@ -44,25 +21,12 @@ const MARKS: [(u8, &[u8], u8, u32, u64); 10] = [
     (3, &[27, 54], 27, 1, 263531717110),
 ];
 
-/// Marks that were made outside this program.
-#[test]
-fn letters_before_words_have_these_marks(rt: HostRuntime) -> Result<(), Fail> {
-    for (n, codes, code, exponent, tag) in MARKS {
-        if 0 < n && n <= 3 {
-            let mark = mark_before(rt.alloc(), n, codes, code)?;
-            assert_eq!(rt; mark.exponent, exponent, "{code} before {codes:?}");
-            assert_eq!(rt; mark.tag, tag, "{code} before {codes:?}");
-        }
-    }
-    Ok(())
-}
-
 /// What marks of letters before words have shown.
 #[derive(Clone, Copy)]
 struct Seen {
     /// How many letters were before words.
     letters: u32,
-    /// Whether a mark was other than that by the longer word's label.
+    /// Whether a mark was other than that by the longer word's label or in the table, or a suffix had another word at hand.
     other: bool,
     /// Whether a mark was made the slow way.
     slow: bool,
@@ -117,12 +81,39 @@ fn look_before(
     let exponent = label.exponent();
     suffix.turn_to(w);
     let mut more = seen;
+    more.other |= suffix.word().letters() != w.letters();
     for code in 1..64u8 {
         if let Ok(p) = letter(w.qubits(), code) {
             let quick = suffix.quick_mark(p);
             let mark = suffix.mark_with(p, label);
             label_of_word(w.push_front(p), label);
             more = more.with(quick, mark, mark_of(label), exponent);
+        }
+    }
+    Ok(more)
+}
+
+/// Makes the marks of the table's words on n qubits.
+fn look_at_table(
+    suffix: &mut Suffix,
+    n: u8,
+    label: &mut Scratch,
+    seen: Seen,
+) -> Result<Seen, &'static str>
+    requires some { 0 < n }
+    requires few { n ≤ 3 }
+    requires suffix { suffix.old.qubits ≡ n }
+    requires label { label.old.qubits ≡ n }
+    ensures suffix { suffix.new.qubits ≡ n }
+    ensures label { label.new.qubits ≡ n }
+{
+    let mut more = seen;
+    for row in MARKS {
+        let (qubits, codes, code, exponent, tag) = row;
+        if qubits == n {
+            suffix.turn_to(word(n, codes)?);
+            let mark = suffix.mark_with(letter(n, code)?, label);
+            more.other |= mark != Mark { exponent, tag };
         }
     }
     Ok(more)
@@ -188,14 +179,14 @@ fn codes_by(n: u8, number: u64) -> [u8; 8] {
     }
 }
 
-/// Looks before so many words on n qubits.
+/// Looks before the table's words and before so many others on n qubits.
 fn look_before_words(alloc: Global, n: u8, words: u64) -> Result<Seen, Fail>
     requires some { 0 < n }
     requires few { n ≤ 3 }
 {
     let mut suffix = Suffix::new(alloc, n)?;
     let mut label = Scratch::new(alloc, n)?;
-    let mut seen = Seen::nothing();
+    let mut seen = look_at_table(&mut suffix, n, &mut label, Seen::nothing())?;
     for number in 0..words {
         let w = word(n, &codes_by(n, number))?;
         seen = look_before(&mut suffix, w, &mut label, seen)?;
